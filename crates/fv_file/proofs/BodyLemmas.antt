@@ -1,12 +1,13 @@
 -- A body is tiled by cells in one way, or there is a first place at which no cell begins. The steps:
--- 1. The cells that were read tile the body up to a place (`Upto`), and with the cell that is read there they tile it
---    up to the next place (`stands_here`, `one_on`).
--- 2. The loop ends at the end of the body (`whole_kept`), where the rest is free (`free_kept`), or at the first fault
---    (`first_here`).
--- 3. A body is tiled in one way (`only_one`). If a check fails at a place, no cells tile the bytes up to a place after it
---    (`stuck`), so the body has no tiling (`none_after`).
--- 4. A body has at most one first fault (`one_cell_fault`), because a first fault is not before a place up to which cells
---    tile the body (`cell_later`). The first fault is also a fault in the sense of `Any` (`cell_fails`).
+-- 1. The cells that were read tile the body up to a place (`Upto`). With the cell that is read there, they tile the
+--    body up to the next place (`stands_here`, `one_on`).
+-- 2. The loop ends at the end of the body (`whole_kept`), before an erased rest (`free_kept`), or at the first fault
+--    (`first_here`). If there is no fault, cells tile all of the body (`all_kept`).
+-- 3. A body is tiled in at most one way (`only_one`). If a check fails at a place, no cells tile the bytes up to a
+--    later place (`stuck`), so the body has no tiling (`none_after`). Each cell of a tiling lies within the body
+--    (`all_within`).
+-- 4. A body has at most one first fault (`one_cell_fault`), because a first fault is not before another one
+--    (`cell_later`). The first fault is also a fault in the sense of `Any` (`cell_fails`).
 -- 5. Cells tile a body, or it has a first fault (`body_decided`).
 use Rattle.std.proofs.Common.{◌≡◌, ◌≤◌, ◌<◌, ℕ, ◌+◌, ◌-◌, ◌%◌, [], ◌∷◌, ◌++◌, ◌⊎◌, List, length, take, drop, map, refl, sym, ap, ◌∙◌, subst}
 use Rattle.fv_base.proofs.Laws.{arith, true, false, length-drop, length-append, Ok, Err, take-append-drop, length-take-le, take_all, append-nil}
@@ -80,18 +81,20 @@ more_read items new cell c is n = rw (n, map_push, is)
 pub rest_free : (e : ℕ) (rest body : List ℕ) (at : ℕ) → rest ≡ drop at body → all_are e rest ≡ true → AllAre e (drop at body)
 rest_free e rest body at behind is = all_are-true e (drop at body) (ap (all_are e) (sym behind) ∙ is)
 
+-- if the test at a place fails, the place is before the end of the body, and not all bytes from there on are erased
 pub rest_used : (e : ℕ) (rest body : List ℕ) (at : ℕ) → rest ≡ drop at body → all_are e rest ≡ false
     → (at < length body) × (AllAre e (drop at body) → ⊥)
 rest_used e rest body at behind is = grind (arith, common_steps, some_left, length-drop, not_erased)
 
 -- ---- all tilings
 
--- if none of the joined cells is free, none of the last of them is
+-- if none of the joined cells is free, none of the cells in the second list is free
 none_free_behind : (cs ds : List CellForm) → NoneFree (cs ++ ds) → NoneFree ds
 none_free_behind [] ds h = h
 none_free_behind (c ∷ cs) ds h = none_free_behind cs ds h.1
 
--- if a check fails at a place of a body, no cells tile the bytes up to a place after it
+-- if a check fails at a place of a body, no cells tile the bytes up to a later place; a free cell is allowed only if no
+-- bytes follow
 pub stuck : (which : Which) (s : FileSystem) (p : Polarity) (first : ℕ) (body : List ℕ) (f : Fault) (ds : List CellForm) (part beyond : List ℕ)
     → (x : CellFault which s p first body f) → drop x.at body ≡ part ++ beyond → 0 < length part → (0 < length beyond → NoneFree ds)
     → Tiles s p first ds (take x.at body ++ part) → ⊥
@@ -106,7 +109,7 @@ stuck which s p first body f ds part beyond x e some free t =
         (e ∙ ap (λ l. l ++ beyond) z ∙ append_assoc u w beyond)
         (λ yes. ap (λ l. l ++ beyond) (no_rest s p _ cs w (last yes) more) ∙ none_behind c cs beyond free yes)
 
--- a body is tiled in one way
+-- a body is tiled in at most one way
 pub only_one : (s : FileSystem) (p : Polarity) (first : ℕ) (body : List ℕ) (cs ds : List CellForm) → Tiles s p first cs body
     → Tiles s p first ds body → ds ≡ cs
 only_one s p first body cs ds t t' = one_tiling s p (one_cell s p) (not_empty s p) first ds cs body t' t
@@ -118,7 +121,7 @@ none_after which s p first body f ds x t =
     stuck which s p first body f ds (drop x.at body) [] x (sym (append-nil _)) (omega (arith, x.inside, length-drop x.at body))
     (λ l. absurd (omega (arith, l))) (rw take-append-drop t)
 
--- each cell of a body lies within it
+-- each cell of a tiling lies within the body, and the header and the data of a file make up its size
 pub all_within : (s : FileSystem) (p : Polarity) (at : ℕ) (cs : List CellForm) (b : List ℕ) → Tiles s p at cs b
     → CellsWithin (at + length b) cs
 all_within s p at [] b t = tt
@@ -129,12 +132,13 @@ all_within s p at (c ∷ cs) b (x, rest, e, is, o, last, more) =
 
 -- ---- the first fault
 
+-- the first fault of a body is also a fault of the body in the sense of `Any`
 pub cell_fails : (s : FileSystem) (p : Polarity) (from : ℕ) (body : List ℕ) (f : Fault) → CellFault First s p from body f
     → CellFault Any s p from body f
 cell_fails s p from body f first = grind (arith, common_steps, any_fails)
 
 module _ (s : FileSystem) (p : Polarity) (first : ℕ) (body : List ℕ) where
-  -- a first fault is not before a place up to which cells tile the body
+  -- a first fault is not before another first fault, because cells tile the body up to the other one
   cell_later : (f g : Fault) → (x : IsFirstCellFault s p first body f) → (y : IsFirstCellFault s p first body g) → x.at < y.at → ⊥
   cell_later f g x y l =
       stuck First s p first body f y.cells _ (drop (y.at - x.at) (drop x.at body)) x (sym (take-append-drop (y.at - x.at) (drop x.at body)))
@@ -149,6 +153,7 @@ module _ (s : FileSystem) (p : Polarity) (first : ℕ) (body : List ℕ) where
 -- ---- a tiling or a first fault
 
 module _ (s : FileSystem) (p : Polarity) (first : ℕ) (body : List ℕ) where
+  -- cells tile the body, or the body has a first fault
   abbrev pub Decided : Type 0
   Decided = ((cs : List CellForm) × Tiles s p first cs body) ⊎ ((f : Fault) × IsFirstCellFault s p first body f)
 

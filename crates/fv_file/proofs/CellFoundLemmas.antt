@@ -1,6 +1,6 @@
 -- If the checks of a cell hold, the bytes begin with the cell that State and the header describe. A file and its filler
 -- lie within the bytes, because the number of bytes is a multiple of 8. A header under construction or an invalid
--- header lies within the bytes, because the only check of such a cell says so.
+-- header lies within the bytes, because the only check of this cell says so.
 use Rattle.std.proofs.Common.{◌≡◌, ◌≤◌, ◌<◌, ℕ, ◌-◌, ◌%◌, add-sub_of_le, ◌==◌, if◌then◌else◌, leb-true}
 use Rattle.fv_base.proofs.Laws.{List, length, take, drop, refl, sym, arith, Bool, true, false, length-drop, not, nat_le, slice_index, Option, None}
 use Rattle.fv_base.proofs.Laws.{Some, eqb-true, eq-eqb, length-take-le, get_or-take, take-add, AllHold, up_to_8, all_hold, and_split, common_steps}
@@ -53,6 +53,7 @@ filled_stands s p st at r c in_eights f used place span cell =
       }) (sym long);
     }
 
+-- a header under construction or an invalid header is a cell, if the header lies within the bytes
 stub_stands : (s : FileSystem) (p : Polarity) (at : ℕ) (r : List ℕ) (st : FileState) → file_header_len_at r ≤ length r
     → StateOf (slice_index r 23) p st → StatesOf sorts.Unfinished st → CellStandsAt s p at (Stub at (file_header_len_at r)) r
 stub_stands s p at r st within state is = grind (arith, common_steps, header_least, length-take-le, get_or-take)
@@ -78,6 +79,7 @@ sort_stands s p st at r in_eights long state used sorts.Valid alive all = kind (
   kind true e = filled_stands s p st at r _ in_eights file refl refl refl (λ filled len. (filled, alive, eqb-true _ _ e))
   kind false e = filled_stands s p st at r _ in_eights file refl refl refl (λ filled len. (filled, alive, file.sound alive e))
 
+-- if all checks of a cell hold, the bytes begin with the cell that is read
 pub cell_stands : (s : FileSystem) (p : Polarity) (at : ℕ) (r : List ℕ) → length r % 8 ≡ 0 → first_fault (cell_checks s p at r) ≡ None
     → CellStandsAt s p at (cell_in (state_of p (slice_index r 23)) at r) r
 cell_stands s p at r in_eights none =

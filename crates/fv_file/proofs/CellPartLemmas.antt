@@ -1,5 +1,5 @@
--- A file with its filler ends at a multiple of 8, the header and the data of a file make up its size, and every cell
--- has bytes.
+-- A cell has as many bytes as its fields say (`cell_span`), and has at least one byte (`not_empty`). The header and the
+-- data of a file make up its size (`made_up`). All bytes of a free cell are erased (`free_all`).
 use Rattle.std.proofs.Common.{◌≡◌, ◌≤◌, ◌+◌, ℕ}
 use Rattle.fv_base.proofs.Laws.{List, length, arith, true, length-append, common_steps, AllAre, erased_byte, up_to_8}
 use Rattle.fv_base.specs.declared.flash.FileSystem.{FileSystem}
@@ -11,6 +11,7 @@ use Rattle.fv_file.proofs.TilingLemmas.{NotEmpty}
 
 -- ---- the number of a cell's bytes
 
+-- a file with its filler has the size of the file, rounded up to 8
 pub filled_span : (s : FileSystem) (p : Polarity) (head : FileHead) (payload b : List ℕ) → IsFilled s p head payload b
     → up_to_8 head.size ≡ length b
 filled_span s p head payload b filled = grind (arith, common_steps, length-append)
@@ -31,6 +32,7 @@ pub file_made_up : (s : FileSystem) (p : Polarity) (head : FileHead) (payload b 
     → head.header_len + length payload ≡ head.size
 file_made_up s p head payload b filled = grind (arith, common_steps, length-append)
 
+-- in a file or pad, the lengths of the header and of the data add up to the size
 pub made_up : (s : FileSystem) (p : Polarity) (c : CellForm) (u : List ℕ) → IsCell s p c u → LengthsAgree c
 made_up s p c u is = grind (arith, common_steps, file_made_up) steps 150000
 

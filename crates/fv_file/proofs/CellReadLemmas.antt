@@ -17,10 +17,12 @@ use Rattle.fv_file.proofs.CellPartLemmas.{filled_span}
 use Rattle.fv_file.proofs.FileLemmas.{header_least, front_byte, HasContent, filled_read}
 use Rattle.fv_file.proofs.SortLemmas.{dead_state, sorted, bits_free}
 
+-- every check of a cell holds, and the cell that is read is c
 pub record CellIsRead (system : FileSystem) (polarity : Polarity) (at : ℕ) (c : CellForm) (r : List ℕ) : Type 0 where
   pub checked : first_fault (cell_checks system polarity at r) ≡ None
   pub read : cell_in (state_of polarity (slice_index r 23)) at r ≡ c
 
+-- if a State byte shows a state other than Free, a bit of the byte was written
 not_erased : (p : Polarity) (b : ℕ) (st : FileState) → StateOf b p st → sort_of st ≢ sorts.Erased → (bits_of p b == 0) ≡ false
 not_erased p b st state used = grind (arith, common_steps, eqb-true, bits_free)
 
@@ -47,6 +49,7 @@ filled_reads s p at c head payload u w k filled sort used checks content form =
     shown s p at c (u ++ w) head.state k reads.long reads.state sort used (rw checks (reads.checks at content))
     (rw (reads.fields, reads.payload_is) form)
 
+-- a header under construction or an invalid header is read
 stub_reads : (s : FileSystem) (p : Polarity) (at : ℕ) (u w : List ℕ) (st : FileState) → sort_of st ≡ sorts.Unfinished
     → StateOf (slice_index u 23) p st → length u ≡ file_header_len (is_large (slice_index u 19))
     → CellIsRead s p at (Stub at (length u)) (u ++ w)
@@ -56,6 +59,7 @@ stub_reads s p at u w st sort state len =
     shown s p at _ (u ++ w) st sorts.Unfinished (omega (arith, low, length-append u w)) (rw (front_byte 23 u w (omega (arith, low))) state) sort
     (λ z. cc) (le-leb _ _ (omega (arith, n, length-append u w)), tt) (rw n)
 
+-- if the bytes begin with a cell that is not free, this cell is read
 pub cell_reads : (s : FileSystem) (p : Polarity) (c : CellForm) (u w : List ℕ) → IsCell s p c u → is_free c ≡ false
     → CellIsRead s p (offset_of c) c (u ++ w)
 cell_reads s p (Valid at head payload) u w (filled, alive, sound) f =

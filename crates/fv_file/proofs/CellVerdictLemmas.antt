@@ -36,7 +36,7 @@ file_is s st k at r = go (first_fault (file_checks s (is_alive st) at r)) where
   go None = refl
   go (Some f) = refl
 
--- for a State byte, whether it shows a state or not, the verdict is the verdict of the checks of the state
+-- for a State byte that does not show the state Free, the verdict is the verdict of the checks of the state
 state_is : (s : FileSystem) (p : Polarity) (o : Option FileState) (at : ℕ) (r : List ℕ) → o ≢ Some states.Free
     → state_verdict o s p at r ≡ verdict_by (first_fault (state_checks o s at r)) (cell_in o at r)
 state_is s p None at r used = refl
@@ -77,11 +77,12 @@ verdict_first s p at r f is = first_is (cell_checks s p at r) f (verdict_fails s
 
 -- ---- one cell at a place
 
+-- no bit of an erased byte was written
 pub no_bits : (p : Polarity) (b : ℕ) → b ≡ erased_byte p → bits_of p b ≡ 0
 no_bits Ones b e = rw e refl
 no_bits Zeros b e = rw e refl
 
--- the State byte of a cell that is read is not erased
+-- if a cell is read, there are at least the 24 bytes of a header, and the State byte is not erased
 pub read_used : (s : FileSystem) (p : Polarity) (at : ℕ) (r : List ℕ) (c : CellForm) → CellIsRead s p at c r
     → (24 ≤ length r) × (slice_index r 23 ≢ erased_byte p)
 read_used s p at r c is = grind (arith, common_steps, and_split, all_hold, leb-true, no_bits, eq-eqb)
@@ -97,6 +98,7 @@ begins s p at c r u w is o e last = go (is_free c) refl where
   go false f = inl (rw (← o, e) (cell_reads s p c u w is f))
   go true f = let free = free_all s p c u is f in inr (rw (e, last f, append-nil) (free.1, rw (← o) free.0))
 
+-- at most one cell begins the bytes
 one_begun : (s : FileSystem) (p : Polarity) (at : ℕ) (c d : CellForm) (r : List ℕ) → Begins s p at c r → Begins s p at d r → c ≡ d
 one_begun s p at c d r (inl a) (inl b) = sym a.read ∙ b.read
 one_begun s p at c d r (inr a) (inr b) = a.1 ∙ sym b.1
@@ -108,7 +110,7 @@ one_cell s p c d u v w z is is' o last last' e =
     let same = one_begun s p _ c d (u ++ w) (begins s p _ c _ u w is o refl last) (begins s p _ d _ v z is' refl e last') in
     (same, sym (cell_span s p c u is) ∙ ap cell_len same ∙ cell_span s p d v is')
 
--- if a check fails, no cell begins there
+-- if a check fails, and not all bytes are erased, no cell begins there
 pub no_cell : (which : Which) (s : FileSystem) (p : Polarity) (at : ℕ) (r : List ℕ) (f : Fault) (c : CellForm) (u w : List ℕ)
     → Fails which (cell_checks s p at r) f → (AllAre (erased_byte p) r → ⊥)
     → IsCell s p c u → offset_of c ≡ at → r ≡ u ++ w → (is_free c ≡ true → w ≡ []) → ⊥

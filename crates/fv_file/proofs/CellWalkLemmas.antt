@@ -1,6 +1,7 @@
 -- A walk over the cells of a body. Each step passes the cell at the start of the part that is left (`stands_walked`,
--- `free_walked`). The cells that a walk passed tile the bytes that it passed (`walked_on`), so they tile the body if
--- nothing is left (`walk_ends`). If the next cell has a fault, this is the first fault of the body (`walk_fails`).
+-- `free_walked`). The cells that a walk passed tile the bytes that the walk passed (`walked_on`), so they tile the body
+-- if nothing is left (`walk_ends`). If the next cell has a fault, this fault is the first fault of the body
+-- (`walk_fails`).
 use Rattle.std.proofs.Common.{◌≡◌, ◌<◌, ℕ, ◌+◌, [], ◌∷◌, ◌++◌, List, length, take, drop, refl, sym, ap, ◌∙◌, arith, length-append, append_assoc}
 use Rattle.fv_base.proofs.Laws.{append-nil, take-append-drop, length-take-le, common_steps, drop-append_seam, take-append_seam, AllAre, erased_byte}
 use Rattle.std.proofs.Math.Seq.{drop-length}
@@ -15,6 +16,7 @@ use Rattle.fv_file.proofs.TilingLemmas.{one_more, none_more}
 -- ---- a step
 
 module _ (s : FileSystem) (p : Polarity) (at : ℕ) (r : List ℕ) where
+  -- a walk passes the cell at the start of the bytes, and the bytes after this cell are left
   abbrev pub After : CellForm → Type 0
   After c = Walked (left_at s p at r) (c ∷ []) (left_at s p (at + cell_len c) (drop (cell_len c) r))
 
@@ -50,9 +52,11 @@ walk_begins a = record {
   polarity = refl;
 }
 
+-- if a walk passes a cell, at least one byte was left before
 pub walked_some : (a b : CellsLeft) (c : CellForm) → Walked a (c ∷ []) b → 0 < length a.rest
 walked_some a b c w = omega (arith, not_empty a.system a.polarity c w.passed (one_passed a b c w).0, ap length w.text, length-append w.passed b.rest)
 
+-- a walk that passed some cells, and then one more cell, passed all these cells
 pub walked_on : (a b d : CellsLeft) (cs : List CellForm) (c : CellForm) → Walked a cs b → Walked b (c ∷ []) d → Walked a (cs ++ c ∷ []) d
 walked_on a b d cs c w v =
     let (is, o) = one_passed b d c v in

@@ -21,10 +21,11 @@ small_even n small = grind (arith, nat_tests)
 pub large_set : (a b : ℕ) → is_large a ≡ false → b ≡ bit_or a 1 → b ≡ a + 1
 large_set a b small set = set ∙ or_disjoint a 1 (and_mask a 1 ∙ small_even a small)
 
+-- attributes with bit 0x01 are the attributes of a large header
 pub set_large : (n : ℕ) → is_large n ≡ false → is_large (n + 1) ≡ true
 set_large n small = grind (arith, common_steps, small_even, nat_tests)
 
--- ---- with bit 0x01 set for a large header
+-- ---- with bit 0x01 set for a large header: the other bits, and so the alignment, are unchanged
 
 pub fixed_with : (l : Bool) (a : ℕ) → is_large a ≡ false → is_fixed (with_large l a) ≡ is_fixed a
 fixed_with l a h = grind (arith, common_steps, small_even) steps 150000

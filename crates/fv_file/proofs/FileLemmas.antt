@@ -1,6 +1,6 @@
--- The checks of a file hold exactly if the bytes begin with a file. Only the bytes of the header decide its fields. If
--- the checks hold, the header and the data are cut from the bytes by their sizes. If a file begins the bytes, its
--- header is read again, and each of its checks holds.
+-- The checks of a file hold exactly if the bytes begin with a file. Only the bytes of the header decide its fields
+-- (`front_head`). If the checks hold, the header and the data are cut from the bytes by their sizes (`file_at`). If a
+-- file begins the bytes, its header is read again, and each of its checks holds (`file_reads`, `filled_read`).
 use Rattle.std.proofs.Common.{◌≡◌, ◌≤◌, ◌<◌, ℕ, ◌+◌, ◌-◌, ◌++◌, ◌==◌, ◌⊎◌, ◌||◌, add-sub_of_le, leb-true, List, length, take, drop}
 use Rattle.fv_base.proofs.Laws.{refl, sym, ap, ◌∙◌, subst, arith, Bool, true, false, length-append, append_assoc, not, slice_index, le-leb, eqb-true}
 use Rattle.fv_base.proofs.Laws.{eq-eqb, take-append-drop, length-take-le, get_or-take, take-add, eqb-false, not-true, take-append-le, get_or-append}
@@ -15,6 +15,7 @@ use Rattle.fv_file.specs.declared.head.FileHead.{FileHead}
 use Rattle.fv_file.specs.declared.state.FileState.{FileState}
 use Rattle.fv_file.proofs.FileVerdictLemmas.{sizes}
 
+-- a header has at least 24 bytes
 pub header_least : (large : Bool) → 24 ≤ file_header_len large
 header_least false = omega arith
 header_least true = omega arith
@@ -47,6 +48,7 @@ pub record FileAt (system : FileSystem) (polarity : Polarity) (state : FileState
   pub is_file : IsFile system polarity (head_in state r) (payload_at r) (take (file_size_at r) r)
   pub sound : is_alive state ≡ true → (slice_index r 18 == pad_kind) ≡ false → IsSound (head_in state r) (payload_at r)
 
+-- if the checks hold, only FFS3 has a large header, and the Size field of a large header is zero
 large_is : (system : FileSystem) (large : Bool) → (not large || allows_large system) ≡ true → large ≡ true → system ≡ Ffs3
 large_is system large h k = grind (arith, common_steps) steps 150000
 
@@ -54,9 +56,11 @@ zero_size : (large : Bool) (n : ℕ) → (not large || (n == 0)) ≡ true → la
 zero_size true n h k = eqb-true n 0 h
 zero_size false n h k = cc
 
+-- if the file is valid by its state and not a pad, the test of its data holds
 looked_at : (alive pad t : Bool) → (not alive || pad || t) ≡ true → alive ≡ true → pad ≡ false → t ≡ true
 looked_at alive pad t h a p = grind (arith, common_steps) steps 150000
 
+-- if the checks hold, the bytes begin with a file
 pub file_at : (s : FileSystem) (p : Polarity) (st : FileState) (at : ℕ) (r : List ℕ) → 24 ≤ length r → StateOf (slice_index r 23) p st
     → AllHold (file_checks s (is_alive st) at r) → FileAt s p st r
 file_at s p st at r long state (allowed, (header_within, (header_zero, (size_fits, (may_move, (data_zero, none)))))) =
@@ -104,6 +108,7 @@ pub record ReadsFile (system : FileSystem) (polarity : Polarity) (head : FileHea
   pub payload_is : payload_at r ≡ payload
   pub checks : (at : ℕ) → HasContent head payload → AllHold (file_checks system (is_alive head.state) at r)
 
+-- conversely, a large header in FFS3 whose Size field is zero passes the tests
 large_may : (s : FileSystem) (large : Bool) → (large ≡ true → s ≡ Ffs3) → (not large || allows_large s) ≡ true
 large_may s false h = refl
 large_may s true h = rw (h refl) refl
@@ -112,12 +117,13 @@ zero_if : (large : Bool) (n : ℕ) → (large ≡ true → n ≡ 0) → (not lar
 zero_if false n h = refl
 zero_if true n h = eq-eqb n 0 (h refl)
 
--- the checks of the data hold
+-- if the file is not valid by its state, is a pad, or is sound, the checks of the data hold
 data_checks : (head : FileHead) (payload : List ℕ) → HasContent head payload
     → ((not (is_alive head.state) || (head.kind == pad_kind) || not (is_fixed (attribute_bits head.attributes))) ≡ true)
     × ((not (is_alive head.state) || (head.kind == pad_kind) || file_sum_right (attribute_bits head.attributes) head.file_sum payload) ≡ true)
 data_checks head payload content = grind (arith, common_steps, eq-eqb)
 
+-- if a file begins the bytes, this file is read
 pub file_reads : (s : FileSystem) (p : Polarity) (head : FileHead) (payload file w : List ℕ) → IsFile s p head payload file
     → ReadsFile s p head payload (file ++ w)
 file_reads s p head payload file w is = rw (is.text, append_assoc) (

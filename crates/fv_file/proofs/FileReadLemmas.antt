@@ -1,4 +1,5 @@
--- The data of a file that was read lie after its header, and the file meets the conditions of a valid file.
+-- The data of a file are the bytes after its header (`payload_behind`). A valid file meets the conditions of `FileRead`
+-- (`cell_read_in`, `cell_read`).
 use Rattle.std.proofs.Common.{◌≡◌, ◌≢◌, ◌≤◌, ◌<◌, ◌+◌, ◌-◌, ℕ, ◌++◌, Bool}
 use Rattle.fv_base.proofs.Laws.{true, false, List, length, take, drop, ap, ◌∙◌, subst, arith, length-append, length-drop, append_assoc, slice_index}
 use Rattle.fv_base.proofs.Laws.{length-take-le, take_at, drop_at, common_steps, bytes_of, IsBytes, bytes_back, bytes_front, bytes_take, field_below}
@@ -62,6 +63,7 @@ cell_read_in system p limit at head payload x small most (filled, alive, sound) 
       payload = bytes_back h payload parts;
     }
 
+-- a valid file meets these conditions with the number of its cell's bytes as the limit
 pub cell_read : (system : FileSystem) (p : Polarity) (at : ℕ) (head : FileHead) (payload x : List ℕ) → IsBytes x
     → IsCell system p (Valid at head payload) x → FileRead system (length x) head payload
 cell_read system p at head payload x small is = cell_read_in system p (length x) at head payload x small (omega arith) is

@@ -1,6 +1,6 @@
--- The verdict on a file is the fault of the first of its checks that does not hold. If this fault is Fixed, the header
--- of the file is right, and its attributes have the bit (`marked_file`). If the header is right and the file is not
--- fixed, its data decide (`data_wrong`, `data_right`).
+-- The verdict on a file is the fault of the first of its checks that does not hold (`file_verdict`). If this fault is
+-- Fixed, the header of the file is right, and the file is fixed (`marked_file`). If the header is right and the file is
+-- not fixed, the file checksum decides (`data_wrong`, `data_right`).
 use Rattle.std.proofs.Common.{◌≡◌, ◌≢◌, [], ◌∷◌, ◌≤◌, ℕ, ◌+◌, ◌&&◌, ◌||◌, if◌then◌else◌, leb-true, Bool, List}
 use Rattle.fv_base.proofs.Laws.{length, true, false, not, refl, ap, arith, nat_le, Ok, Err, Option, Some, check, common_steps, and_split, outer_fault}
 use Rattle.fv_base.specs.inner.Verdicts.{first_fault}
@@ -12,7 +12,7 @@ use Rattle.fv_file.specs.declared.state.FileState.{FileState}
 use Rattle.fv_file.specs.inner.CellVerdicts.{file_verdict}
 use Rattle.fv_base.specs.declared.fault.FaultKind.TheVariants as kinds
 
--- the test of the size says that the size is in its range
+-- if the test of a size holds, the size is in its range, and the rest of the test holds
 pub sizes : (low n high : ℕ) (more : Bool) → (nat_le low n && (nat_le n high && more)) ≡ true → (low ≤ n) × (n ≤ high) × (more ≡ true)
 sizes low n high more h = grind (arith, common_steps, and_split, leb-true)
 
@@ -25,23 +25,26 @@ pub record IsHeaderRight (s : FileSystem) (r : List ℕ) : Type 0 where
 
 module _ (s : FileSystem) (st : FileState) (at : ℕ) (r : List ℕ) where
   module _ (head : IsHeaderRight s r) (checked : skips_data (is_alive st) r ≡ false) (moves : not (is_fixed (attributes_at r)) ≡ true) where
+    -- if the file checksum is wrong, the fault is FileSum
     pub data_wrong : has_file_sum r ≡ false → file_verdict s st at r ≡ Err (outer_fault kinds.FileSum (at + 17))
     unfolding file_verdict
     data_wrong payload = rw (head.form, head.whole, head.sum, head.size, checked, moves, payload) refl
 
+    -- if the file checksum is right, the verdict is the header
     pub data_right : has_file_sum r ≡ true → file_verdict s st at r ≡ Ok (head_in st r)
     unfolding file_verdict
     data_right payload = rw (head.form, head.whole, head.sum, head.size, checked, moves, payload) refl
 
 -- ---- the fault Fixed
 
--- if the first fault of some checks is another fault than that of the first check, this check holds
+-- if the first fault of some checks has another kind than the fault of the first check, the first check holds, and the
+-- fault is the first fault of the other checks
 pub held : (holds : Bool) (fault : Fault) (more : Option Fault) (f : Fault) → (if holds then more else Some fault) ≡ Some f
     → fault.kind ≢ f.kind → (holds ≡ true) × (more ≡ Some f)
 held true fault more f is other = (refl, is)
 held false fault more f is other = let same : fault ≡ f = cc in absurd (other (ap (λ (g : Fault). g.kind) same))
 
--- the header is right, the data are checked, and the attributes have the bit
+-- the header is right, the data are checked, the file is fixed, and f is the fault Fixed at its attributes
 pub record MarkedFile (s : FileSystem) (st : FileState) (at : ℕ) (r : List ℕ) (f : Fault) : Type 0 where
   pub right : IsHeaderRight s r
   pub checked : skips_data (is_alive st) r ≡ false

@@ -1,5 +1,6 @@
 -- The bytes begin with a file exactly if one is read. The verdict on the bytes is the verdict of their checks. If all
--- of them hold, the header at the start is the header of a file, and if a file begins the bytes, all of them hold.
+-- checks hold, the header at the start is the header of a file (`begins_found`). If a file begins the bytes, all checks
+-- hold, and the verdict is the header of this file (`begins_only`).
 use Rattle.std.proofs.Common.{◌≡◌, ℕ, ◌++◌, ◌==◌, ◌⊎◌, leb-true, List, length, take, drop}
 use Rattle.fv_base.proofs.Laws.{inl, inr, refl, sym, subst, Bool, true, false, nat_le, slice_index, Option, None, Some, Result, Ok, Err, IfOk, IfErr}
 use Rattle.fv_base.proofs.Laws.{le-leb, eqb-true, take-append-drop, AllHold, IsFirstFault, all_hold, first_is, none_faulty, verdict_err, verdict_ok}
@@ -14,7 +15,7 @@ use Rattle.fv_file.specs.declared.state.FileState.{FileState}
 use Rattle.fv_file.specs.inner.CellVerdicts.{file_verdict, head_of, verify_verdict}
 use Rattle.fv_file.proofs.FileLemmas.{FileAt, file_at, file_reads}
 
--- for bytes that show the state of a valid file, the verdict is that on a file
+-- for bytes that show the state of a valid file, the verdict is the verdict on a file
 pub alive_read : (s : FileSystem) (p : Polarity) (b : List ℕ) (st : FileState) → nat_le 24 (length b) ≡ true
     → state_of p (slice_index b 23) ≡ Some st → is_alive st ≡ true → verify_verdict s p b ≡ file_verdict s st 0 b
 unfolding file_verdict
@@ -38,6 +39,7 @@ begins_at s p st b alive f = record {
     content true e = inl (eqb-true _ _ e)
     content false e = inr (f.sound alive e)
 
+-- if the checks hold, the bytes begin with the file whose header is at the start
 begins_found : (s : FileSystem) (p : Polarity) (b : List ℕ) → AllHold (verify_checks s p b)
     → BeginsFile s p (head_of (state_of p (slice_index b 23)) b) b
 begins_found s p b (long, (standing, checks)) = go (state_of p (slice_index b 23)) refl standing where
@@ -46,6 +48,7 @@ begins_found s p b (long, (standing, checks)) = go (state_of p (slice_index b 23
   go (Some st) e alive = begins_at s p st b alive (file_at s p st 0 b (leb-true _ _ long) e
       (subst (λ (t : Bool). AllHold (file_checks s t 0 b)) (sym alive) checks))
 
+-- if a file begins the bytes, the verdict is its header
 pub begins_only : (s : FileSystem) (p : Polarity) (b : List ℕ) (head : FileHead) → BeginsFile s p head b → verify_verdict s p b ≡ Ok head
 begins_only s p b head begins =
     let r : List ℕ = begins.file ++ begins.rest in

@@ -2,12 +2,13 @@
 
 -- ---- a body and its cells
 
--- A body is tiled in one way. If a check fails, there is no tiling. Each cell lies within the volume. A body has at most
--- one first fault, which is also a fault in the sense of `Any`. Cells tile a body, or it has a first fault.
+-- A body is tiled in at most one way. If a check fails, there is no tiling. Each cell lies within the volume. A body
+-- has at most one first fault, which is also a fault in the sense of `Any`. Cells tile a body, or it has a first fault.
 pub use Rattle.fv_file.proofs.BodyLemmas.{only_one, none_after, all_within, cell_fails, one_cell_fault, body_decided}
 -- The first fault of a body lies within it, or at its end.
 pub use Rattle.fv_file.proofs.CellFaultLemmas.{body_within}
--- A walk passes one cell after another. At the end they tile the body. The fault of the next cell is the first fault.
+-- A walk passes one cell after another. At the end, these cells tile the body. The fault of the next cell is the first
+-- fault of the body.
 pub use Rattle.fv_file.proofs.CellWalkLemmas.{one_passed, walk_begins, walked_on, walk_ends, walk_fails}
 -- A cell has the length that follows from its fields. The header and the data of a file make up its size.
 pub use Rattle.fv_file.proofs.CellPartLemmas.{cell_span, made_up}
@@ -35,9 +36,10 @@ pub use Rattle.fv_file.proofs.NewHeaderLemmas.{with_large_is}
 pub use Rattle.fv_file.proofs.FileAttributeLemmas.{fixed_with, summed_with, alignment_with, with_large_small}
 -- ---- headers that are written
 
--- A written header is a list of bytes, and has the length of its form.
+-- A written header is a list of bytes, and has the length of its form. Its State is a byte.
 pub use Rattle.fv_file.proofs.NewHeaderLemmas.{state_small, bytes_header, length-header}
--- Written headers are read again as their fields, and with data and filler they are files and pads.
+-- A header checksum is a byte. Written headers are read again as their fields, and with data and filler they are files
+-- and pads.
 pub use Rattle.fv_file.proofs.NewHeaderLemmas.{complement_small, file_written, pad_written, head_of_file, head_of_pad}
 -- No other bytes are the header of these fields.
 pub use Rattle.fv_file.proofs.NewHeaderLemmas.{only_written, only_file, only_pad}

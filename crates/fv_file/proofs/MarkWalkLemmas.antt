@@ -1,5 +1,6 @@
 -- A walk over a body with fixed files removes their marks up to a place, and leaves the bytes from there on as they
--- are.
+-- are (`walk_begins`, `walk_on`). At the end, cells tile the body without its marks (`walk_ends`). A fault of the next
+-- cell is the first fault of the body without these marks (`walk_stops`).
 use Rattle.std.proofs.Common.{◌≡◌, ◌≤◌, ◌<◌, ℕ, ◌+◌, ◌%◌, ◌⊎◌}
 use Rattle.fv_base.proofs.Laws.{List, length, drop, refl, sym, ap, ◌∙◌, arith, inl, inr, Ok, Err, drop-drop, AllAre, erased_byte}
 use Rattle.fv_base.specs.declared.fault.Fault.{Fault}
@@ -65,7 +66,7 @@ module _ (s : FileSystem) (p : Polarity) (first : ℕ) (body : List ℕ) (at : �
         behind step (inl e) = ap (drop len) e
         behind (inr (fixed, e)) (inr more) = ap (drop len) e ∙ behind_mark len (drop at body) more
 
-    -- a fault at the place is the first fault of the body without the marks before it
+    -- a fault at the place is the first fault of the body without the marks that were removed
     pub walk_stops : (f : Fault) → cell_verdict s p (first + at) b ≡ Err f
         → (places : List ℕ) × (o : List ℕ) × Unmarks s p first places body o × IsFirstCellFault s p first o f
     walk_stops f is = (

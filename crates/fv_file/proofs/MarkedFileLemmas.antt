@@ -1,9 +1,12 @@
 -- A fixed file without its mark is a cell, or its fault is FileSum. The steps:
--- 1. If the fault of a cell is Fixed, the cell is a file that is valid by its state, and only its mark is wrong
---    (`fixed_there`).
--- 2. Without the mark, all bytes but two are the same, and they have the same sum.
--- 3. So the header is right as before, and the data are checked as before.
--- 4. So if the fault of a file is Fixed, the file without its mark is a cell, or its fault is FileSum.
+-- 1. If the fault of a cell is Fixed, the cell is a file that is valid by its state, the header of the file is right,
+--    and the file is fixed (`fixed_there`).
+-- 2. Without the mark, all bytes but two are the same (`other`, `behind_mark`). One of the two bytes is more by 4, and
+--    the other is less by 4, so the sum of the header is the same modulo 256 (`front_sum`, `middle_sum`, `around_sum`).
+-- 3. So the header is right as before (`right_still`), and the data are checked as before (`skipped_same`,
+--    `file_sum_same`).
+-- 4. So if the fault of a file is Fixed, the file without its mark is a cell (`cell_without`), or its fault is FileSum
+--    (`wrong_without`). Its fault is not Fixed again (`not_fixed_again`).
 use Rattle.std.proofs.Common.{◌≡◌, ◌≤◌, ◌<◌, ℕ, ◌+◌, ◌-◌, ◌%◌, ◌≢◌, ◌||◌, ◌==◌, sum, ◌&&◌, leb-true}
 use Rattle.fv_base.proofs.Laws.{List, length, take, drop, refl, sym, ap, ◌∙◌, arith, Bool, true, false, not, slice_index, slice_set, Some, Ok, Err}
 use Rattle.fv_base.proofs.Laws.{ltb-true, get_or-drop, get_or-set_same, get_or-set_other, drop-set-lt, length-set, length-drop, get_or-take}
@@ -63,7 +66,7 @@ fixed_there s p at r f is kind =
         let alive : is_alive st ≡ true = not-false _ (or_parts _ _ file.checked).0 in
         record { long = long; used = used; state = st; shown = shown; sort = (sorted st).valid alive; file = file }
 
--- attributes with the bit are at least 4
+-- the attributes of a fixed file are at least 4
 pub fixed_least : (a : ℕ) → is_fixed a ≡ true → 4 ≤ a
 fixed_least a h = grind (arith, nat_tests)
 
@@ -83,10 +86,13 @@ sum-field_set i n k l v small within =
     let long : length (field i n l) ≡ n = length-take-le n (drop i l) (omega (arith, within, length-drop i l)) in
     rw (drop-set-add i l k v, take-set-lt n (drop i l) k v small, ← byte) (sum_by-set (λ (x : ℕ). x) (field i n l) k v 0 (omega (arith, long, small)))
 
+-- removing the mark does not change the bytes after the attributes
 pub behind_mark : (n : ℕ) (r : List ℕ) → 19 < n → drop n (unmarked 0 r) ≡ drop n r
 behind_mark n r l = drop-set-lt n (slice_set r 16 ((slice_index r 16 + 4) % 256)) 19 (slice_index r 19 - 4) l
     ∙ drop-set-lt n r 16 ((slice_index r 16 + 4) % 256) (omega (arith, l))
 
+-- attributes that are less by 4 have the same bit 0x01 and the same bit for the file checksum, and do not say that the
+-- file is fixed
 even_less : (a : ℕ) → 4 ≤ a → (a - 4) % 2 ≡ a % 2
 even_less a l = omega (arith, l)
 
@@ -133,6 +139,7 @@ module _ (r : List ℕ) (long : 24 ≤ length r) (fixed : is_fixed (attributes_a
   size_same : file_size_at (unmarked 0 r) ≡ file_size_at r
   size_same = ap (λ (t : Bool). file_size_in t (unmarked 0 r)) large ∙ size_kept (is_large (attributes_at r))
 
+  -- the header sum of 24 + n bytes is the same: n is 0 for a short header, and 8 for a large one
   around_sum : (n : ℕ) → header_sum_of (take (24 + n) (unmarked 0 r)) ≡ header_sum_of (take (24 + n) r)
   around_sum n =
       let part : (l : List ℕ) → header_sum_of (take (24 + n) l) ≡ (sum (take 17 l) + sum (field 18 5 l) + sum (take n (drop 24 l))) % 256 =
@@ -171,7 +178,7 @@ module _ (r : List ℕ) (long : 24 ≤ length r) (fixed : is_fixed (attributes_a
 
 -- ---- 4. the file without its mark
 
--- the verdict on a valid file is the verdict of its checks
+-- for the state of a valid file, the verdict on the cell follows from the verdict on the file
 valid_verdict : (s : FileSystem) (p : Polarity) (st : FileState) (at : ℕ) (r : List ℕ) → 24 ≤ length r → state_of p (state_at r) ≡ Some st
     → sort_of st ≡ sorts.Valid → cell_verdict s p at r ≡ cell_with sorts.Valid at r (file_verdict s st at r)
 valid_verdict s p st at r long state sort = grind (arith, common_steps, ltb-true)
@@ -187,12 +194,13 @@ module _ (s : FileSystem) (p : Polarity) (at : ℕ) (r : List ℕ) (f : Fault) (
   verdict : cell_verdict s p at (unmarked 0 r) ≡ cell_with sorts.Valid at (unmarked 0 r) (file_verdict s there.state at (unmarked 0 r))
   verdict = grind (arith, common_steps, valid_verdict, length-unmarked, state_same)
 
-  -- without the mark, the State byte is not erased, and the file is not fixed
+  -- without the mark, not all bytes are erased, because the State byte is the same
   pub used_without : AllAre (erased_byte p) (unmarked 0 r) → ⊥
   used_without all =
       let erased = all_at (erased_byte p) (unmarked 0 r) 23 all (omega (arith, length-unmarked 0 r, there.long)) in
       cc (there.used, eq-eqb _ 0 (no_bits p (state_at r) (sym (state_same r there.long there.file.fixed) ∙ erased)))
 
+  -- without the mark, the file is not fixed, so the fault is not Fixed
   pub not_fixed_again : (g : Fault) → cell_verdict s p at (unmarked 0 r) ≡ Err g → g.kind ≢ kinds.Fixed
   not_fixed_again g is kind = cc ((fixed_there s p at (unmarked 0 r) g is kind).file.fixed, moves r there.long there.file.fixed)
 

@@ -4,9 +4,9 @@
 --    complement (`complement_right`, `complement_only`).
 -- 3. The fields are read again (`size_is`, `fields_are`). So with the right header checksum, the bytes are the header
 --    of these fields (`written_is`).
--- 4. With data and filler, it is the header of a file or of a pad (`head_of_file`, `head_of_pad`, `file_written`,
---    `pad_written`).
--- 5. Conversely, bytes that are the header of some fields are the bytes that are written for them (`form_of`,
+-- 4. A header with data and filler is a file or a pad (`head_of_file`, `head_of_pad`). The bytes that are written for a
+--    file and for a pad are the headers of their fields (`file_written`, `pad_written`).
+-- 5. Conversely, bytes that are the header of some fields are the bytes that are written for these fields (`form_of`,
 --    `only_written`), for a file and for a pad (`only_file`, `only_pad`).
 -- 6. A written header has the length of its form, and each element is a byte (`length-header`, `bytes_header`).
 use Rattle.std.proofs.Common.{◌≡◌, ◌≤◌, ◌<◌, ◌+◌, ◌%◌, ◌^◌, ℕ, [], ◌∷◌, ◌++◌, sum, get_or-append-add, shr-shr}
@@ -43,6 +43,7 @@ abbrev short_size : Bool → ℕ → ℕ
 short_size true size = 0
 short_size false size = size
 
+-- the bytes after State: the size in a large header, and otherwise no bytes
 abbrev long_size : Bool → ℕ → List ℕ
 long_size true size = le_bytes 8 size
 long_size false size = []
@@ -62,10 +63,12 @@ abbrev spelled : FileHead → Bool → ℕ → List ℕ
 spelled h large state =
     header_with h.header_sum h.file_sum (bytes_of h.name) h.kind (attribute_bits h.attributes) h.size large state
 
+-- the bytes of a header with these fields, after the name
 abbrev rest_of : FileHead → Bool → ℕ → List ℕ
 rest_of h large state =
     behind_name h.header_sum h.file_sum h.kind (attribute_bits h.attributes) (short_size large h.size) state (long_size large h.size)
 
+-- the fields that a header of this form has when it is read
 abbrev formed : FileHead → Bool → FileHead
 formed h large = fields_of (bytes_of h.name) h.kind (attribute_bits h.attributes) h.size large h.header_sum h.file_sum
 
@@ -124,11 +127,13 @@ size_is : (h : FileHead) (large : Bool) (state : ℕ) → length (bytes_of h.nam
 size_is h true state long small = ap (λ (xs : List ℕ). le (take 8 xs)) (drop_behind 8 (bytes_of h.name) _ long) ∙ le-le_bytes 8 h.size small
 size_is h false state long small = ap (λ (xs : List ℕ). le (take 3 xs)) (drop_behind 4 (bytes_of h.name) _ long) ∙ le-le_bytes 3 h.size small
 
+-- the Size field of a large header is zero
 zero_size : (h : FileHead) (large : Bool) (state : ℕ) → length (bytes_of h.name) ≡ 16 → large ≡ true
     → le_at 20 3 (bytes_of h.name ++ rest_of h large state) ≡ 0
 zero_size h true state long is = ap (λ (xs : List ℕ). le (take 3 xs)) (drop_behind 4 (bytes_of h.name) (rest_of h true state) long)
 zero_size h false state long is = cc
 
+-- the fields of a written header are read again
 fields_are : (h : FileHead) (large : Bool) (state : ℕ) → length (bytes_of h.name) ≡ 16 → is_large (attribute_bits h.attributes) ≡ large
     → h.size < size_limit large → formed h large ≡ head_in states.DataValid (bytes_of h.name ++ rest_of h large state)
 fields_are h large state long is small =
@@ -144,6 +149,7 @@ fields_are h large state long is small =
       size_is h large state long small,
     ) refl
 
+-- a written header has the length of its form
 length_is : (h : FileHead) (large : Bool) (state : ℕ) → length (bytes_of h.name) ≡ 16
     → length (bytes_of h.name ++ rest_of h large state) ≡ file_header_len large
 length_is h true state long = length-append (bytes_of h.name) (rest_of h true state) ∙ ap (λ (n : ℕ). n + 16) long
@@ -211,6 +217,7 @@ pub with_large_is : (large : Bool) (attributes : ℕ) → is_large attributes �
 with_large_is true attributes short = set_large attributes short
 with_large_is false attributes short = short
 
+-- the size of a new file is less than the limit for the form of its header
 size_small : (data_len : ℕ) → data_len ≤ data_limit → file_header_len (needs_large data_len) + data_len < size_limit (needs_large data_len)
 size_small data_len most = grind (arith, common_steps, nat_tests)
 
@@ -221,6 +228,7 @@ pub file_head_is : (polarity : Polarity) (name : Guid) (kind : ℕ) (attributes 
     → new_header_bytes header polarity ≡ file_head_of name kind attributes data_len file_sum polarity
 file_head_is polarity name kind attributes data_len file_sum header short is = grind (arith, common_steps, with_large_is)
 
+-- the bytes that are written for a file, and for a pad, are the headers of their fields
 pub file_written : (polarity : Polarity) (name : Guid) (kind : ℕ) (attributes : FileAttributes) (data_len file_sum : ℕ) (b : List ℕ)
     → length (bytes_of name) ≡ 16
     → is_large (attribute_bits attributes) ≡ false → data_len ≤ data_limit → IsBytes b
@@ -238,7 +246,7 @@ pad_written polarity size b most bytes is =
 
 -- ---- no other bytes are the header of these fields
 
--- bytes of at least 24 are a name, seven fields, and the bytes after State
+-- at least 24 bytes are a name, six more fields, and the bytes after State
 parts_of : (b : List ℕ) → IsBytes b → 24 ≤ length b
     → b ≡ take 16 b
     ++ behind_name (slice_index b 16) (slice_index b 17) (slice_index b 18) (slice_index b 19) (le_at 20 3 b) (slice_index b 23) (drop 24 b)
@@ -249,6 +257,7 @@ parts_of b small least =
     rw (more 16 (omega arith), more 17 (omega arith), more 18 (omega arith), more 19 (omega arith), size, more 23 (omega arith))
     at (sym (take-append-drop 16 b))
 
+-- the number in the Size field, and the bytes after State, follow from the size
 short_is : (large : Bool) (b : List ℕ) (size : ℕ) → (large ≡ true → le_at 20 3 b ≡ 0) → size ≡ file_size_in large b
     → le_at 20 3 b ≡ short_size large size
 short_is true b size none is = none refl
@@ -275,6 +284,7 @@ form_of polarity head b written =
     rw (header_parts head (is_large (attribute_bits head.attributes)) (state_byte polarity), at, ← short, ← long, ← written.state, is.fields)
     (parts_of b written.bytes least)
 
+-- the header checksum of these bytes is the complement, so they are the bytes that `header_bytes` spells
 pub only_written : (polarity : Polarity) (head : FileHead) (b : List ℕ) → IsNewHeader polarity head b
     → b ≡ header_bytes head.file_sum (bytes_of head.name) head.kind (attribute_bits head.attributes) head.size
     (is_large (attribute_bits head.attributes)) (state_byte polarity)
@@ -309,6 +319,7 @@ pub state_small : (p : Polarity) → state_byte p < 256
 state_small Ones = omega arith
 state_small Zeros = omega arith
 
+-- if the fields are bytes, each element of a written header is a byte
 pub bytes_header : (file_sum : ℕ) (name : List ℕ) (kind attributes size : ℕ) (large : Bool) (state : ℕ) → IsBytes name → file_sum < 256
     → kind < 256 → attributes < 256 → state < 256
     → IsBytes (header_bytes file_sum name kind attributes size large state)

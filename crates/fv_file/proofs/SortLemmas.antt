@@ -1,6 +1,6 @@
 -- The sort of a state decides which checks a cell has, whether a file of this state is valid, and whether its header is
--- complete. Most other modules distinguish only the four sorts, not the seven states.
--- A State byte shows the state Free exactly if no bit of it was written.
+-- complete (`sorted`). Most other modules distinguish only the four sorts, not the seven states.
+-- A State byte shows the state Free exactly if no bit of this byte was written (`free_bits`, `bits_free`).
 use Rattle.std.proofs.Common.{◌≡◌, ℕ, ◌⊎◌}
 use Rattle.fv_base.proofs.Laws.{arith, List, false, true, Some, ap, common_steps, nat_tests}
 use Rattle.fv_base.specs.declared.flash.FileSystem.{FileSystem}
@@ -10,12 +10,14 @@ use Rattle.fv_file.specs.inner.CellVerdicts.{StateSort, Erased, Unfinished, Dead
 use Rattle.fv_file.specs.declared.state.FileState.TheVariants as states
 use Rattle.fv_base.specs.declared.flash.Polarity.{Polarity}
 
+-- the states of a sort
 abbrev pub StatesOf : StateSort → FileState → Type 0
 StatesOf Erased st = st ≡ states.Free
 StatesOf Unfinished st = (st ≡ states.Construction) ⊎ (st ≡ states.HeaderInvalid)
 StatesOf Dead st = (st ≡ states.HeaderValid) ⊎ (st ≡ states.Deleted)
 StatesOf Valid st = is_alive st ≡ true
 
+-- the properties of a state that follow from its sort
 pub record Sorted (st : FileState) : Type 0 where
   pub states : StatesOf (sort_of st) st
   pub valid : is_alive st ≡ true → sort_of st ≡ Valid

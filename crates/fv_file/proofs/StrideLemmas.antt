@@ -1,7 +1,7 @@
--- The distance from the header of a cell to the next header is the length of the header for a stub, and otherwise the
--- size of the file, rounded up to 8. The steps:
--- 1. The next header begins at the end of the cell: of a file, of a stub, and so of each cell that is not free
---    (`file_stride`, `stub_stride`, `cell_stride`).
+-- The distance from the header of a cell to the next header is the length of the header if the cell is a stub, and
+-- otherwise the size of the file, rounded up to 8. The steps:
+-- 1. The next header begins at the end of a file (`file_stride`) or of a stub (`stub_stride`), and so at the end of
+--    each cell that is not free (`cell_stride`, `stride_here`).
 -- 2. So one step is one cell (`one_less`), and the count goes up by one (`one_counted`).
 -- 3. At the end one free cell is left if any bytes are left (`free_left`), so all cells are counted (`all_counted`).
 use Rattle.std.proofs.Common.{◌≡◌, ◌≤◌, ◌<◌, ℕ, ◌+◌, [], ◌∷◌, ◌++◌, ◌≢◌, List, length, drop, inl, inr, refl, sym, ap, subst, arith, Bool, true}
@@ -62,7 +62,7 @@ cell_stride s p (Stub at len) u w (inl state, whole, long) f = stub_stride p u w
 cell_stride s p (Stub at len) u w (inr state, whole, long) f = stub_stride p u w states.HeaderInvalid refl state whole
 cell_stride s p (Free at len) u w is f = cc
 
--- the same of bytes r that begin with the cell
+-- the same for bytes r that begin with the cell
 pub stride_here : (s : FileSystem) (p : Polarity) (c : CellForm) (r u w : List ℕ) → r ≡ u ++ w → IsCell s p c u → is_free c ≡ false
     → Stride p r (length u)
 stride_here s p c r u w e is f = subst (λ (x : List ℕ). Stride p x (length u)) (sym e) (cell_stride s p c u w is f)
@@ -91,6 +91,7 @@ one_less s p at n (c ∷ cs) rest after (u, w, e, is, o, last, more) long used s
       let whole = rw (no_rest s p _ cs w (last f) more, append-nil) at e in
       absurd (used (rw whole (all_at _ u 23 (free_all s p c u is f).1 (omega (arith, ap length whole, long)))))
 
+-- after a step of n bytes, one more cell is counted
 pub one_counted : (p : Polarity) (count n : ℕ) (body rest after : List ℕ) → Counted p count body rest
     → 24 ≤ length rest → slice_index rest 23 ≢ erased_byte p
     → ((s : FileSystem) (c : CellForm) (u w : List ℕ) → rest ≡ u ++ w → IsCell s p c u → is_free c ≡ false → n ≡ length u)
@@ -100,7 +101,7 @@ one_counted p count n body rest after counted long used stride behind = λ s fir
     let m = one_less s p k.0 n k.1 rest after k.2 long used (stride s) behind in
     (m.0, m.1, m.2, omega (arith, m.3, k.3))
 
--- if any bytes are left, one cell is left, which is free
+-- if no bytes are left, no cell is left; if any bytes are left, and no header is there, one free cell is left
 pub free_left : (s : FileSystem) (p : Polarity) (at : ℕ) (ds : List CellForm) (rest : List ℕ) → Tiles s p at ds rest
     → (24 ≤ length rest → slice_index rest 23 ≡ erased_byte p)
     → (length rest ≡ 0 → length ds ≡ 0) × (0 < length rest → length ds ≡ 1)
@@ -114,6 +115,7 @@ free_left s p at (c ∷ cs) rest (u, w, e, is, o, last, more) ends =
         let used = read_used s p _ _ c (cell_reads s p c u w is f) in
         absurd (used.1 ((rw e at ends) used.0))
 
+-- the count, with one more if any bytes are left, is the number of all cells
 pub all_counted : (p : Polarity) (count result : ℕ) (body rest : List ℕ) → Counted p count body rest
     → (24 ≤ length rest → slice_index rest 23 ≡ erased_byte p)
     → (length rest ≡ 0 → result ≡ count) → (0 < length rest → result ≡ count + 1)

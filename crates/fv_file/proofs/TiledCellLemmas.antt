@@ -1,7 +1,8 @@
 -- The data of each file or pad in a tiling are the bytes of the volume from the end of the file's header to the end of
 -- the file (`IsPayloadIn`). Each valid file in a tiling of bytes meets the conditions of `FileRead`. The steps:
 -- 1. There are at most as many cells as bytes (`cells_few`).
--- 2. `IsPayloadIn` is true of a cell (`cell_payload`), and so of all cells of a tiling (`tiled_payloads`).
+-- 2. `IsPayloadIn` is true of a cell (`cell_payload`), and so of all cells of a tiling (`tiled_payloads`,
+--    `body_payloads`).
 -- 3. In a tiling of bytes, each valid file meets the conditions of `FileRead` (`tiles_read`).
 use Rattle.std.proofs.Common.{◌≡◌, ◌≤◌, ◌+◌, ◌-◌, ℕ, [], ◌∷◌, ◌++◌, List, length, take, drop, refl, sym, ap, ◌∙◌, subst, arith}
 use Rattle.fv_base.proofs.Laws.{length-append, drop-drop, drop-append_seam, AllByRecursion, IsBytes, bytes_back, bytes_front, field-append_front}

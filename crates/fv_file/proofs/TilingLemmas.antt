@@ -1,4 +1,5 @@
--- A body is tiled by cells in at most one way.
+-- A body is tiled by cells in at most one way (`one_tiling`), because a tiling is cut where the cells of another tiling
+-- end (`cut`). Cells that are not free, and one more cell, tile the joined bytes (`one_more`).
 use Rattle.std.proofs.Common.{◌≡◌, ◌<◌, ℕ, ◌+◌, [], ◌∷◌, ◌++◌, add-zero}
 use Rattle.fv_base.proofs.Laws.{List, length, refl, sym, ap, ◌∙◌, subst, arith, true, false, length-append, append_assoc, append-nil, same_cut}
 use Rattle.fv_base.specs.declared.flash.Polarity.{Polarity}
@@ -10,9 +11,11 @@ abbrev pub OneCell : FileSystem → Polarity → Type 0
 OneCell s p = (c d : CellForm) (u v w z : List ℕ) → IsCell s p c u → IsCell s p d v → offset_of c ≡ offset_of d
     → (is_free c ≡ true → w ≡ []) → (is_free d ≡ true → z ≡ []) → u ++ w ≡ v ++ z → (c ≡ d) × (length u ≡ length v)
 
+-- each cell has at least one byte
 abbrev pub NotEmpty : FileSystem → Polarity → Type 0
 NotEmpty s p = (c : CellForm) (u : List ℕ) → IsCell s p c u → 0 < length u
 
+-- an empty list of cells tiles only an empty list of bytes
 pub no_rest : (s : FileSystem) (p : Polarity) (at : ℕ) (cs : List CellForm) (b : List ℕ) → cs ≡ [] → Tiles s p at cs b → b ≡ []
 no_rest s p at [] b e t = t
 no_rest s p at (c ∷ cs) b e t = cc
@@ -23,6 +26,7 @@ none_behind c cs [] free f = refl
 none_behind c cs (a ∷ y) free f = let used = free (omega arith) in cc
 
 module _ (s : FileSystem) (p : Polarity) (one : OneCell s p) (some : NotEmpty s p) where
+  -- only an empty list of cells tiles an empty list of bytes
   no_cells : (at : ℕ) (cs : List CellForm) → Tiles s p at cs [] → cs ≡ []
   no_cells at [] t = refl
   no_cells at (c ∷ cs) (u, w, e, is, o, last, more) = absurd (omega (arith, some c u is, ap length e, length-append u w))
@@ -57,6 +61,7 @@ one_more s p at (d ∷ ds) c x y (u, w, e, is', o', last, more) free is o =
     let k = one_more s p (at + length u) ds c w y more free.1 is (omega (arith, o, ap length e, length-append u w)) in
     (u, w ++ y, ap (λ l. l ++ y) e ∙ append_assoc u w y, is', o', λ f. cc, k)
 
+-- if none of some cells is free, and one more cell is not free, none of all these cells is free
 pub none_more : (cs : List CellForm) (c : CellForm) → NoneFree cs → is_free c ≡ false → NoneFree (cs ++ c ∷ [])
 none_more [] c h f = (f, tt)
 none_more (d ∷ ds) c h f = (h.0, none_more ds c h.1 f)

@@ -1,5 +1,6 @@
 -- There is one way to remove the marks of all fixed files. The steps:
--- 1. The marks are removed one after another, and cells tile the body up to each place.
+-- 1. The marks are removed one after another, and cells tile the body up to each place (`one_less`, `one_further`). A
+--    fault after the mark at a place was removed is the first fault of the body (`stopped`).
 -- 2. There is one way to remove all marks (`one_unmarked`).
 -- 3. If all marks can be removed, a cell begins at each place after the mark there was removed (`unmarked_cell`).
 use Rattle.std.proofs.Common.{◌≡◌, ◌≤◌, ◌<◌, ℕ, ◌+◌, ◌-◌, ◌%◌, [], ◌∷◌, ◌++◌, ◌≢◌, ◌⊎◌}
@@ -17,11 +18,13 @@ use Rattle.fv_base.specs.declared.fault.FaultKind.TheVariants as kinds
 
 -- ---- 1. one after another
 
+-- removing the mark at a place does not change the bytes before this place
 pub front_unmarked : (p : ℕ) (b : List ℕ) → take p (unmarked p b) ≡ take p b
 front_unmarked p b = take-set-le p (slice_set b (p + 16) ((slice_index b (p + 16) + 4) % 256)) (p + 19) (slice_index b (p + 19) - 4) (omega arith)
     ∙ take-set-le p b (p + 16) ((slice_index b (p + 16) + 4) % 256) (omega arith)
 
 module _ (s : FileSystem) (p : Polarity) (first : ℕ) where
+  -- if the first fault of the body is Fixed, one more mark is removed, at the place of this fault
   pub marks_more : (ps : List ℕ) (q : ℕ) (b o : List ℕ) → Unmarks s p first ps b o
       → IsFirstCellFault s p first o (outer_fault kinds.Fixed (first + q + 19)) → Unmarks s p first (ps ++ q ∷ []) b (unmarked q o)
   marks_more [] q b o same here = rw (← same) (here, refl)
@@ -49,7 +52,7 @@ module _ (s : FileSystem) (p : Polarity) (first : ℕ) where
       (new ≡ body)
       ⊎ ((cell_verdict s p (first + at) (drop at body) ≡ Err (outer_fault kinds.Fixed (first + at + 19))) × (new ≡ unmarked at body))
 
-  -- with the mark at the place removed, the marks up to the place are still removed, and cells tile the body up to there
+  -- after the mark at the place was removed, the marks up to the place are removed, and cells tile the body up to there
   pub one_less : (old body new : List ℕ) (at : ℕ) → Unmarked old body at → Used body at → MarkStep body new at → Unmarked old new at
   one_less old body new at k used (inl same) = rw same k
   one_less old body new at k used (inr (is, less)) = rw less (record {
@@ -107,7 +110,7 @@ module _ (s : FileSystem) (p : Polarity) (first : ℕ) where
       let same : r ≡ q = omega (arith, ap (λ (f : Fault). f.place.offset) (one_cell_fault s p first b _ _ other.0 marks.0)) in
       one_unmarked qs rs (unmarked q b) o x marks.1 end (rw same at other.1) end_x
 
-  -- ---- 3. a body whose marks can be taken away
+  -- ---- 3. a body whose marks can be removed
 
   -- some cells tile the body without its marks
   abbrev pub Accepts : List ℕ → Type 0
@@ -145,11 +148,11 @@ module _ (s : FileSystem) (p : Polarity) (first : ℕ) where
   stands_unmarked old body at c in_eights k is =
       stands_here s p first body k.cells at k.upto c (ap (λ (i : ℕ). i % 8) k.same_length ∙ in_eights) is
 
--- if a cell begins the bytes, there are at least the 24 bytes of a header
+-- if a cell is read, there are at least the 24 bytes of a header
 pub cell_long : (s : FileSystem) (p : Polarity) (at : ℕ) (r : List ℕ) (c : CellForm) → cell_verdict s p at r ≡ Ok c → 24 ≤ length r
 cell_long s p at r c is = grind (arith, common_steps, ltb-false)
 
--- n is the length of the cell, because it is the length of each cell that begins the bytes
+-- if n is the length of each cell that begins the bytes and is not free, n is the length of the cell that begins there
 pub stride_len : (s : FileSystem) (p : Polarity) (at n : ℕ) (r : List ℕ) (c : CellForm) → CellStandsAt s p at c r
     → ((x behind : List ℕ) → r ≡ x ++ behind → IsCell s p c x → is_free c ≡ false → n ≡ length x) → n ≡ cell_len c
 stride_len s p at n r c stands strides =

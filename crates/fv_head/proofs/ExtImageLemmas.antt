@@ -1,9 +1,11 @@
 -- The bytes that are written for an extended header are read again as this extended header. The steps:
--- 1. A payload has the length of its kept payload, also if a used size is written into it (`length-held`,
+-- 1. A payload has the length of its kept payload, also if a used size is written into the payload (`length-held`,
 --    `length-payload_with`).
 -- 2. So written entries are read again as these entries (`entries_again`), and a written extended header as this
 --    extended header (`ext_again`).
--- 3. A walk puts the entries one by one (`entries_step`, `entries_end`).
+-- 3. A walk puts the entries one by one (`entries_step`, `entries_end`), each with its payload (`used_put`,
+--    `payload_put`).
+-- 4. An extended header has at most 65,535 bytes (`ext_len_most`).
 use Rattle.std.proofs.Common.{◌≡◌, ◌≤◌, ◌<◌, ℕ, ◌+◌, [], ◌∷◌, ◌++◌, List, length, drop, refl, sym, ap, ◌∙◌}
 use Rattle.fv_base.proofs.Laws.{subst, arith, Bool, true, false, get_or, length-append, append_assoc, append-nil, drop_at, eqb-true, common_steps}
 use Rattle.fv_base.proofs.Laws.{drop_more, drop_all, bytes_of, ext_limit, IsBytes, le, le_bytes, le_at, bytes_drop, le-le_bytes, two_bytes}
@@ -112,6 +114,7 @@ pub used_put : (used : ℕ) (e : ℕ × List ℕ) (kind : ℕ) (payload : List �
     → payload ≡ e.1 → t ≡ true → le_bytes 4 used ≡ payload_with used e
 used_put used e kind payload t test kinds payloads on = grind (arith, common_steps)
 
+-- the payload of another entry is put as it is
 pub payload_put : (used : ℕ) (e : ℕ × List ℕ) (kind : ℕ) (payload : List ℕ) (t : Bool) → t ≡ is_used_size kind payload → kind ≡ e.0
     → payload ≡ e.1 → t ≡ false → payload ≡ payload_with used e
 payload_put used e kind payload t test kinds payloads off = grind (arith, common_steps)
@@ -121,11 +124,13 @@ pub entries_len_step : (es : List (ℕ × List ℕ)) (i : ℕ) (e : ℕ × List 
     → entries_len (drop i es) ≡ (4 + length e.1) + entries_len (drop (i + 1) es)
 entries_len_step es i e within is = grind (arith, common_steps, drop_more)
 
+-- the entries so far and one more entry, with the entries that are left, are all entries
 pub entries_step : (used : ℕ) (front : List ℕ) (es : List (ℕ × List ℕ)) (i : ℕ) (e : ℕ × List ℕ) → i < length es → e ≡ get_or es i e
     → front ++ entries_bytes used (drop i es) ≡ entries_bytes used es
     → (front ++ entry_bytes used e) ++ entries_bytes used (drop (i + 1) es) ≡ entries_bytes used es
 entries_step used front es i e within item is = grind (arith, common_steps, append_assoc, drop_more)
 
+-- if no entry is left, the bytes so far are the bytes of all entries
 pub entries_end : (used : ℕ) (front : List ℕ) (es : List (ℕ × List ℕ)) (i : ℕ) → length es ≤ i
     → front ++ entries_bytes used (drop i es) ≡ entries_bytes used es → front ≡ entries_bytes used es
 entries_end used front es i past is = grind (arith, common_steps, append-nil, drop_all)

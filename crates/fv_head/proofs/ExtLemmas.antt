@@ -1,11 +1,11 @@
--- A volume has at most one extended header, and its header check decides whether it has an extended header that is
+-- A volume has at most one extended header, and a check of the volume header decides whether this extended header is
 -- right. The steps:
 -- 1. All bytes split into some entries and a tail (`some_entries`), and only in one way (`one_entries`).
 -- 2. Bytes with the right size are an extended header (`some_ext`), and the same bytes are an extended header with at
 --    most one meaning (`one_ext`).
 -- 3. A volume has at most one extended header (`one_has_ext`). The check holds exactly if the volume has an extended
---    header that is right, or ExtHeaderOffset is 0 (`some_has_ext`, `has_ext_holds`). Only the volume's own bytes
---    decide this (`ext_same`).
+--    header that is right, or ExtHeaderOffset is 0 (`some_has_ext`, `has_ext_holds`). The extended header decides
+--    where the first file may begin (`has_ext_first`). Only the volume's own bytes decide this (`ext_same`).
 -- 4. A reader counts the entries (`entry_counted`, `entries_counted`) and takes them one by one (`more_entries`,
 --    `end_entries`), and the extended header that it has read is an extended header (`ext_from`).
 use Rattle.std.proofs.Common.{◌≡◌, ◌≤◌, ◌<◌, ℕ, ◌+◌, ◌-◌, [], ◌∷◌, ◌++◌, rules, ◌==◌, ◌&&◌, ◌||◌, if◌then◌else◌, leb-true, add-sub_of_le}
@@ -103,6 +103,7 @@ starts b = grind (arith, common_steps, nat_tests)
 abbrev pub Split : List ℕ → Type 0
 Split b = (es : List (ℕ × List ℕ)) × (tail : List ℕ) × SplitsEntries es tail b
 
+-- an entry at the front, and a split of the bytes after this entry, are a split of all bytes
 entry_and : (b : List ℕ) → 4 ≤ length b → 4 ≤ le_at 0 2 b → le_at 0 2 b ≤ length b → Split (drop (le_at 0 2 b) b) → Split b
 entry_and b long least within (es, tail, more) =
     let n : ℕ = le_at 0 2 b in
@@ -163,7 +164,7 @@ some_ext b least most size =
 pub length-ext : (x : Extension) (b : List ℕ) → (is : IsExt x b) → length b ≡ 20 + length is.rest
 length-ext x b is = grind (arith, common_steps, length-append)
 
--- ---- where it is
+-- ---- the place of the extended header
 
 -- the bytes at ExtHeaderOffset are an extended header, after the volume header and within the volume
 pub record Placed (x : Extension) (e : Extent) (b : List ℕ) : Type 0 where
@@ -212,7 +213,7 @@ one_has_ext (Some x) (Some y) e b least first second =
     ap (λ (z : Extension). let A : Type 0 = Option Extension in let made : A = Some z in made)
     (one_ext x y (field (ext_offset_at b) (ext_size_at b) b) (placed x e b first).is_ext (placed y e b second).is_ext)
 
--- an extended header that lies after the volume header and within the volume is the volume's
+-- an extended header that lies after the volume header and within the volume is the volume's extended header
 pub make_has_ext : (x : Extension) (e : Extent) (b : List ℕ) (n : ℕ) → e.length ≤ length b → e.header_len ≤ ext_offset_at b
     → ext_offset_at b + n ≤ e.length
     → e.first ≡ up_to_8 (ext_offset_at b + n) → IsExt x (field (ext_offset_at b) n b) → HasExt (Some x) e b
@@ -286,7 +287,7 @@ has_ext_holds (Some x) e b h =
     or_right true t is = refl
     or_right false t is = is
 
--- the first file may begin where the header says
+-- the first file may begin after the extended header, or after the volume header if ExtHeaderOffset is 0
 pub has_ext_first : (x : Option Extension) (e : Extent) (b : List ℕ) → 64 ≤ e.header_len → HasExt x e b
     → (if ext_offset_at b == 0 then e.header_len else up_to_8 (ext_offset_at b + ext_size_at b)) ≡ e.first
 has_ext_first None e b least h = rw h.0 (sym h.1)
@@ -319,7 +320,7 @@ ext_same x e b c least within h long same = go x h where
 
 -- ---- reading
 
--- entries and a tail that split the rest, with the entries before the rest, split all bytes
+-- entries and a tail that split the rest, with `count` entries before the rest, split all bytes
 abbrev pub EntriesLeft : ℕ → List ℕ → List ℕ → Type 0
 EntriesLeft count bytes rest =
     (es : List (ℕ × List ℕ)) (tail : List ℕ) → SplitsEntries es tail rest
@@ -340,7 +341,7 @@ entries_counted count bytes rest sofar ended es tail split =
     let all = sofar [] rest (refl, ended) in
     omega (arith, all.2, ap length (one_entries all.0 es rest tail bytes all.1 split).0)
 
--- an entry is read: it is added to the entries so far, and the entries of the rest complete them
+-- an entry that is read is added to the entries so far; with the entries of the rest, these entries split all bytes
 pub more_entries : (items new : List (ℕ × List ℕ)) (e : ℕ × List ℕ) (bytes rest behind entry : List ℕ) (n : ℕ) → new ≡ items ++ (e ∷ [])
     → behind ≡ drop n rest → entry ≡ take n rest
     → n ≡ le_at 0 2 rest → 4 ≤ n → n ≤ length rest → e.0 ≡ le_at 2 2 entry → e.1 ≡ kept_payload (le_at 2 2 entry) (drop 4 entry)

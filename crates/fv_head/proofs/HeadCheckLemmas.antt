@@ -3,7 +3,8 @@
 -- 1. The verdict is the first fault of the checks or, if all checks hold, an extent (`verdict_ok`, `verdict_err`,
 --    `verdict_extent`).
 -- 2. If the checks hold, the bytes begin with a volume that has the fields that are read (`front_found`).
--- 3. If bytes begin with a volume, the checks hold, and the verdict is its extent (`front_only`).
+-- 3. If bytes begin with a volume, its header lies within the bytes (`front_within`), the checks hold, and the verdict
+--    is its extent (`front_only`).
 -- 4. The fields of the volume's header have the values that are read at their offsets (`front_fields`).
 use Rattle.std.proofs.Common.{◌≡◌, ◌≤◌, ℕ, ◌+◌, ◌-◌, ◌%◌, [], ◌∷◌, ◌++◌, rules, ◌==◌, if◌then◌else◌, leb-true}
 use Rattle.fv_base.proofs.Laws.{List, length, take, refl, sym, ap, ◌∙◌, subst, arith, true, nat_le, is_some, Option, None, Some, Ok, Err, slice_index}
@@ -34,6 +35,7 @@ fields_of fs x b = record {
   ext = x;
 }
 
+-- if the verdict is an extent, there is no fault, and a file system is found that gives this extent
 pub verdict_ok : (f : Option Fault) (b : List ℕ) (e : Extent) → extent_verdict f b ≡ Ok e
     → (f ≡ None) × (extent_or (file_system_at b) (outer_fault kinds.FileSystem 16) b ≡ Ok e)
 verdict_ok f b e h = grind (arith, common_steps)
@@ -71,6 +73,7 @@ checked b all = grind (arith, common_steps)
 all_checked : (b : List ℕ) → Checked b (header_len_at b) (volume_len_at b) (file_system_at b) → AllHold (head_checks b)
 all_checked b k = search rules
 
+-- if the checks hold, the bytes begin with a volume that has the fields that are read
 front_of : (b : List ℕ) (fs : FileSystem) → IsBytes b → file_system_at b ≡ Some fs → field 16 16 b ≡ system_guid fs
     → AllHold (head_checks b)
     → (x : Option Extension) × BeginsVolume (fields_of fs x b) (extent_at fs b) b
@@ -131,7 +134,7 @@ guid_found b fs is = search (rules, bytes_eq-Decides)
 guid_finds : (b : List ℕ) (fs : FileSystem) → field 16 16 b ≡ system_guid fs → file_system_at b ≡ Some fs
 guid_finds b fs is = grind (arith, common_steps, bytes_eq-Decides)
 
--- bytes without a fault begin with a volume
+-- if the verdict is an extent, the bytes begin with a volume of this extent
 pub front_found : (b : List ℕ) (e : Extent) → IsBytes b → head_verdict b ≡ Ok e
     → (x : Option Extension) × BeginsVolume (fields_of e.file_system x b) e b
 front_found b e small h =
@@ -202,7 +205,7 @@ front_exact b h e same least f =
     ∙ has_ext_first h.ext e b least f.ext) (sym f.file_system) (ap polarity_of bits ∙ sym f.polarity) in
     rw (none_faulty (head_checks b) all, system) (ap Ok made)
 
--- bytes that begin with a volume have no fault
+-- if bytes begin with a volume, the verdict is its extent
 pub front_only : (b : List ℕ) (h : HeadFields) (e : Extent) → BeginsVolume h e b → head_verdict b ≡ Ok e
 front_only b h e f = let within = front_within b h e f in front_exact b h e (sym within.at) within.least f
 

@@ -3,8 +3,8 @@
 -- 1. The bytes that are written for the pairs of some bytes are these bytes (`pairs_bytes-pairs_of`).
 -- 2. A header is the bytes that are written for its fields, its checksum and its ExtHeaderOffset (`front_is`,
 --    `behind_is`, `spelled_is`).
--- 3. With another ExtHeaderOffset, and the checksum that makes its sum 0, they are a header with the same fields
---    (`spelled_head`). There is one such checksum (`spelled_sum`, `checksum_right`, `checksum_only`).
+-- 3. With another ExtHeaderOffset, and a checksum that makes the sum 0, the bytes are a header with the same fields
+--    (`spelled_head`). One checksum makes the sum 0 (`spelled_sum`, `checksum_right`, `checksum_only`).
 -- 4. So the bytes of `canonical_head` satisfy `IsCanonicalHead` (`canonical_is`), and no other bytes do
 --    (`canonical_only`). With the extended header in a pad file after them, they begin a volume with these fields
 --    (`canonical_front`).
@@ -149,7 +149,7 @@ module _ (h : HeadFields) (b : List ℕ) (head : IsHead h b) (checksum offset : 
       (bytes_append (le_bytes 2 checksum) (le_bytes 2 offset ++ behind_of h) (bytes_le_bytes 2 checksum)
       (bytes_append (le_bytes 2 offset) (behind_of h) (bytes_le_bytes 2 offset) (subst IsBytes (behind_is h b head) (bytes_drop 54 b head.bytes)))))
 
-  -- if their words sum to 0, they are a header with the same fields
+  -- if the words of these bytes sum to 0, the bytes are a header with the same fields
   spelled_head : sum16_of bytes ≡ 0 → IsHead h bytes
   spelled_head right = record {
     bytes = spelled_bytes;
@@ -178,12 +178,13 @@ module _ (h : HeadFields) (b : List ℕ) (head : IsHead h b) (checksum offset : 
     byte : (i : ℕ) → slice_index bytes (54 + i) ≡ slice_index b (54 + i)
     byte i = sym (get_or-drop 54 bytes i 0) ∙ ap (λ (xs : List ℕ). slice_index xs i) behind_same ∙ get_or-drop 54 b i 0
 
-  -- their words sum to their sum with Checksum 0, plus the checksum
+  -- the sum of the words of these bytes is the sum with Checksum 0, plus the checksum
   spelled_sum : checksum < 65536 → sum (words_of bytes) ≡ sum (words_of (head_spelled h 0 offset)) + checksum
   spelled_sum small = grind (arith, common_steps, sum-words_of-append, fifty, sum_by-cons, whole, spelled_parts, le-le_bytes)
 
 -- ---- the canonical head
 
+-- one checksum makes a sum 0 modulo 65536, and no other checksum does
 checksum_right : (total : ℕ) → (total + (65536 - total % 65536) % 65536) % 65536 ≡ 0
 checksum_right total = omega arith
 
@@ -201,7 +202,7 @@ pub canonical_is : (h : HeadFields) → IsReadHead h → IsCanonicalHead h (cano
 unfolding canonical_head
 canonical_is h read = grind (arith, common_steps, spelled_sum, checksum_small, spelled_head, checksum_right, spelled_offset, canonical_offset_small)
 
--- no other bytes are such a header
+-- no other bytes satisfy `IsCanonicalHead`
 pub canonical_only : (h : HeadFields) (b : List ℕ) → IsCanonicalHead h b → b ≡ canonical_head h
 unfolding canonical_head
 canonical_only h b canonical =
@@ -259,6 +260,7 @@ canonical_front h rest read known there fits long =
 
 -- ---- sums of words in parts
 
+-- the weight of whole words is the sum of these words
 pub weight-words : (xs : List ℕ) → length xs % 2 ≡ 0 → word_weight false xs ≡ sum (words_of xs)
 weight-words [] h = refl
 weight-words (x ∷ []) h = absurd (omega arith)

@@ -1,6 +1,7 @@
 -- The fields of a volume header are read at their offsets, and bytes begin with at most one volume. The steps:
 -- 1. The fields of the header and the extended header are read at their offsets (`kept_fields`, `ext_there`).
 -- 2. So bytes begin with at most one volume (`one_front`), and only the volume's own bytes decide which (`front_same`).
+--    The checks of its header hold (`front_holds`), and its extent follows from the header (`front_system`).
 -- 3. The header and the start of the first file lie within the volume (`front_lies`, `first_lies`).
 use Rattle.std.proofs.Common.{◌≡◌, ◌≤◌, ℕ, ◌+◌, ◌-◌, ◌%◌, rules}
 use Rattle.fv_base.proofs.Laws.{zero, suc, List, length, take, refl, sym, ap, ◌∙◌, subst, arith, inl, inr, Option, Some, slice_index, length-take-le}
@@ -23,7 +24,7 @@ pub kept_fields : (b : List ℕ) (e : Extent) (z : List ℕ) (l a r : ℕ) (bs :
     BeginsVolume made e b)
 kept_fields b e z l a r bs x found p q s t u ext = grind (arith, common_steps, front_within, one_has_ext, fields_are, front_fields)
 
--- the extended header at ExtHeaderOffset lies within the bytes
+-- the extended header at ExtHeaderOffset lies within the bytes, and is the volume's extended header
 pub record ExtThere (e : Extent) (b : List ℕ) : Type 0 where
   pub header : ext_offset_at b + 20 ≤ length b
   pub within : ext_offset_at b + ext_size_at b ≤ length b

@@ -10,13 +10,13 @@ pub use Rattle.fv_head.proofs.HeadPlaceLemmas.{Lies, front_lies, first_lies}
 -- The first fault of a header is within the bytes, or at their end, and is not OutOfMemory.
 pub use Rattle.fv_head.proofs.HeadFaultLemmas.{fault_within, fault_known}
 -- The same bytes are an extended header with at most one meaning. An extended header that is written is read again as
--- the same. An extended header has at most 65,535 bytes.
+-- this extended header. An extended header has at most 65,535 bytes.
 pub use Rattle.fv_head.proofs.ExtLemmas.{one_ext}
 pub use Rattle.fv_head.proofs.ExtImageLemmas.{ext_again, ext_len_most}
--- The bytes that `canonical_head` spells satisfy `IsCanonicalHead`, and no other bytes do. Their number follows from the
--- fields, and a header has at most 2112 bytes.
+-- The bytes that `canonical_head` spells satisfy `IsCanonicalHead`, and no other bytes do. The number of these bytes
+-- follows from the fields, and a header has at most 2112 bytes.
 pub use Rattle.fv_head.proofs.HeadImageLemmas.{canonical_is, canonical_only, length-canonical, header_len_is, header_len_most}
 -- The canonical head, with its extended header in a pad file after it, begins a volume with its fields.
 pub use Rattle.fv_head.proofs.HeadImageLemmas.{canonical_front}
--- Bytes begin with a volume, or a check of its header has a first fault.
+-- Bytes begin with a volume, or the checks of a volume header have a first fault.
 pub use Rattle.fv_head.proofs.DecidedLemmas.{front_decided}

@@ -7,7 +7,7 @@ use Rattle.fv_file.proofs.UnmarkLemmas.{Unmarked, cell_long, one_further, one_le
 use Rattle.fv_file.proofs.unmark.take_marks.Goals.{After-unmark_at, After-stride_at-at}
 use Rattle.fv_file.proofs.unmark.take_marks.Goals as goal
 
--- a cell begins here, and is not a fixed file
+-- the marks up to this place are removed, and a cell is read here
 here : (c : After-unmark_at) → Unmarked c.args.system c.args.polarity c.args.first c.args.body.now c.unmark_at.new.body c.loop-system.at
     × ((cell : CellForm) × (cell_verdict c.args.system c.args.polarity (c.args.first + c.loop-system.at) (drop c.loop-system.at c.unmark_at.new.body) ≡ Ok cell))
 here c =
