@@ -1,5 +1,5 @@
--- The reader of command lines makes rows of the arguments of a command, and finds no fault in arguments that are right
--- (`read`). Texts and flags are read from these rows (`text_answer`, `flag_answer`).
+-- If the reader of command lines finds no fault, its matches are the rows of the arguments of the command (`read`).
+-- Texts and flags are read from these rows (`text_answer`, `flag_answer`).
 use Rattle.std.proofs.Common.{◌≡◌, ◌≢◌, [], ℕ, ◌∙◌, Bool, List, ap, codes, cond, drop, false, refl, sym, true, subst, arith, Option, Some, None}
 use Rattle.fv_base.proofs.Laws.{is_some, true≢false, common_steps, bytes_eq-Decides, unwrap_or, bytes_eq}
 use Rattle.std.proofs.lemmas.Bool.Decides.{Decides-not}
@@ -41,7 +41,7 @@ program_first name = grind arith
 pub faults_read : (name : Text) (words : List Text) → fault_of (app_named name) words ≡ faults_in (app_named name) (drop 1 words)
 faults_read name words = grind (arith, common_steps, program_first)
 
--- so the matches are the matches of the arguments after the first
+-- so if the reader finds no fault, the arguments after the first have none, and the matches are their rows
 pub read : {m : ArgMatches} (words : List Text) (name : Text) (given : App) → given ≡ app_named name → HasMatchesOf given words m
     → (is_simple_and_free given ≡ true → fault_of given words ≡ []) → IsRead (app_named name) (drop 1 words) m
 read {m} words name given e matches kinds =
@@ -61,6 +61,7 @@ text_answer {app} {rest} {m} r id = first_value-rows (found_of m) id ∙ ap (fir
 abbrev is_true : Option Text → Bool
 is_true text = option_map_or (λ t. bytes_eq t (codes "true")) text false
 
+-- a flag that is read from a text is true exactly if the text is `true`; without a text it is false
 bool_read : (E : Type 0) (text : Option Text) (r : Option Bool) → (text ≡ None → r ≡ None)
     → ((t : Text) → text ≡ Some t → ReadsOne {E = E} ParsesBool t r) → unwrap_or r false ≡ is_true text
 bool_read E None r none value = ap (λ o. unwrap_or o false) (none refl)

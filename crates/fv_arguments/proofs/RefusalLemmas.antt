@@ -30,6 +30,7 @@ named_app c = refl
 same_app : (name : List ℕ) (c : Command) → name ≡ command_name c → app_named name ≡ command_app c
 same_app name c is = ap app_named is ∙ named_app c
 
+-- so if the rules for a command's name accepted some arguments, the rules of the command accepted them
 pub read_of : {rest : List (List ℕ)} {m : ArgMatches} (name : List ℕ) (c : Command) → name ≡ command_name c
     → IsRead (app_named name) rest m → IsRead (command_app c) rest m
 read_of name c is r = rw (same_app name c is) at r
@@ -39,6 +40,7 @@ read_of name c is r = rw (same_app name c is) at r
 abbrev pub IsHandedOn : Error → WordFault → Type 0
 IsHandedOn e f = (kind_of e ≡ error_kinds.OutOfMemory → f ≡ OutOfMemory) × (kind_of e ≢ error_kinds.OutOfMemory → f ≡ Words)
 
+-- if a fault of the reader is passed on as a fault of the arguments, the reader found a fault in them
 handed_on : {T : Type 0} (r : Result T WordFault) (e : Error) (ks : Kinds) → IsErrAnd r (IsHandedOn e) → HasKind ks e
     → IfErr r (λ f. f ≡ Words → ks ≢ [])
 handed_on (Ok x) e ks h has = tt
@@ -61,7 +63,7 @@ pub passed : {X Y : Type 0} (P : X → Type 0) (Q : Y → Type 0) (r : Result Y 
 passed P Q (Ok y) f is none has = absurd is
 passed P Q (Err g) f is none has = λ words y q. let x = has y q in none (sym is ∙ words) x.0 x.1
 
--- two texts that differ are not equal
+-- two texts are not equal if the test for equal texts is false of them
 other : (a b : List ℕ) → bytes_eq a b ≡ false → a ≡ b → ⊥
 other a b e is = true≢false (sym ((bytes_eq-Decides a b).1 is) ∙ e)
 
@@ -70,9 +72,11 @@ abbrev is_on_volume : List ℕ → Bool
 is_on_volume name =
     not (bytes_eq name (codes "hobs")) && (not (bytes_eq name (codes "compare")) && not (bytes_eq name (codes "scan")))
 
+-- the arguments have an input for the command with this name
 abbrev SomeInput : List ℕ → List (List ℕ) → Type 0
 SomeInput name rest = (i : Option ℕ × Option (String Global)) × HasInput (app_named name) rest i.0 i.1
 
+-- right arguments of a command on one volume have an input
 right_input : (name : List ℕ) (rest : List (List ℕ)) → is_on_volume name ≡ true → AreRightFor name rest → SomeInput name rest
 right_input name rest volume right =
     let is = right.1.command in rw is (go right.0.command (rw is at volume) right.1.texts)

@@ -1,4 +1,4 @@
--- Texts of one or two hexadecimal digits have no sign and spell a byte.
+-- A hexadecimal numeral has no plus sign (`no_plus`), and one of at most two digits spells a byte (`small`).
 use Rattle.std.proofs.Common.{◌≡◌, ◌==◌, ◌^◌, ◌<◌, ◌≤◌, ℕ, [], ◌∷◌, Bool, cond, true, false, refl, arith, eqb-true, List, drop, length}
 use Rattle.fv_base.proofs.Laws.{IsNumeral, digits_value, without_leading_plus}
 

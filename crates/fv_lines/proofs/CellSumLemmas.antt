@@ -1,4 +1,5 @@
--- The cells of a volume fit into it, and each of their bytes is counted once.
+-- The sums of the lengths of cells count each byte of the cells once, so no sum overflows (`counted_is`,
+-- `counted_next`). The cells of a volume fit together (`fit_together`).
 use Rattle.std.proofs.Common.{◌≡◌, ◌≤◌, ◌<◌, ◌+◌, ◌^◌, ℕ, [], ◌∷◌, List, length, take, drop, get_or, refl, sym, ap}
 use Rattle.fv_base.proofs.Laws.{arith, length-append, length-drop, map, length-take-le, AllByRecursion, map_more}
 use Rattle.fv_base.proofs.Laws.{sum_by-cons, sum_by_push, at_index, length-map, volume_limit}
@@ -17,21 +18,23 @@ use Rattle.fv_lines.specs.inner.LineRuns.{FitTogether, Fits, counted, sums_with}
 
 -- ---- sums
 
--- the sums of the first cells and one more cell, if each item has the form of a cell
+-- the sums of the first i + 1 cells are the sums of the first i cells with the next cell added; each item has the form
+-- of a cell
 pub sums_next : {X : Type 0} (see : X → CellForm) (xs : List X) (i : ℕ) (d : X) → i < length xs
     → sums_of (map see (take (i + 1) xs)) ≡ sums_with (sums_of (map see (take i xs))) (see (get_or xs i d))
 sums_next see xs i d l = rw (map_more see xs i d l) (simp sum_by_push)
 
+-- the lengths of one cell count its bytes once
 one : (c : CellForm) → counted (lengths_of c) ≡ cell_len c
 one (Valid at head payload) = omega arith
 one c = omega arith
 
--- each byte of the cells is counted once
+-- so each byte of the cells is counted once
 pub counted_is : (cs : List CellForm) → counted (sums_of cs) ≡ sum_by cell_len cs
 counted_is [] = refl
 counted_is (c ∷ cs) = omega (arith, sum_by-cons {X = CellForm}, counted_is cs, one c)
 
--- so no sum overflows
+-- so no sum overflows when one more cell is added
 pub counted_next : {X : Type 0} (see : X → CellForm) (xs : List X) (i : ℕ) (d : X) → i < length xs
     → sum_by cell_len (map see xs) < 2 ^ 63 → counted (sums_of (map see (take i xs))) + cell_len (see (get_or xs i d)) < 2 ^ 63
 counted_next see xs i d l small =
@@ -45,17 +48,19 @@ pub fits_at : {X : Type 0} (see : X → CellForm) (xs : List X) (i : ℕ) (d : X
     → AllByRecursion Fits (map see xs) → Fits (see (get_or xs i d))
 fits_at see xs i d l all = rw (get_or-map see xs i d) at (at_index Fits (map see xs) i (see d) all (omega (arith, l, length-map xs see)))
 
+-- cells that lie within a volume fit, because a volume has at most `volume_limit` bytes
 all_fit : (end : ℕ) (cs : List CellForm) → end ≤ volume_limit → CellsWithin end cs → AllByRecursion Fits cs
 all_fit end [] small within = tt
 all_fit end (c ∷ cs) small (lies, made, rest) =
     (record { within = omega (arith, lies, small); lengths_agree = made }, all_fit end cs small rest)
 
+-- the lengths of cells that tile some bytes sum to the number of these bytes
 tiles_sum : (s : FileSystem) (p : Polarity) (at : ℕ) (cs : List CellForm) (b : List ℕ) → Tiles s p at cs b → sum_by cell_len cs ≡ length b
 tiles_sum s p at [] b text = sym (ap length text)
 tiles_sum s p at (c ∷ cs) b (x, rest, text, is, place, last, more) =
     rw (text, length-append) (omega (arith, sum_by-cons {X = CellForm}, cell_span s p c x is, tiles_sum s p (at + length x) cs rest more))
 
--- the cells of the volume that an input begins with fit into the volume together
+-- the cells of the volume that an input begins with fit together
 pub fit_together : (input : List ℕ) (e : Extent) (cs : List CellForm) → BeginsTiled e cs input
     → CellsWithin (length (take e.length input)) cs → FitTogether cs
 fit_together input e cs b within =

@@ -9,7 +9,7 @@ use Rattle.fv_arguments.proofs.options.volume_offset.Goals as goal
 not_decimal : (digits : List ℕ) (n : ℕ) → IsNumberWord 64 (codes "0x" ++ digits) n → ⊥
 not_decimal digits n h = let second : digit_value 120 < 10 = h.0.1.1.0 in absurd (omega arith)
 
--- so whether the text begins with `0x` decides how a place is read
+-- so an offset that begins with `0x` is read as the hexadecimal numeral after `0x`
 hexadecimal_place : (text digits : List ℕ) (r : Result ℕ WordFault) → text ≡ codes "0x" ++ digits
     → ReadsOrFails (IsNumeralOf 16 64 digits) r → ReadsOrFails (λ n. IsAtWord (Some text) (Some n)) r
 hexadecimal_place text digits (Ok n) is h = inr (digits, is, h)
@@ -18,6 +18,7 @@ hexadecimal_place text digits (Err f) is h = λ words n spells. elim spells [
   | inr other ↦ h words n (rw (ap (drop 2) (sym other.1 ∙ is)) at other.2)
 ]
 
+-- an offset that does not begin with `0x` is read as a decimal number
 decimal_place : (text : List ℕ) (r : Result ℕ WordFault) → ((digits : List ℕ) → text ≢ codes "0x" ++ digits)
     → ReadsOrFails (IsNumberWord 64 text) r → ReadsOrFails (λ n. IsAtWord (Some text) (Some n)) r
 decimal_place text (Ok n) lacks h = inl h

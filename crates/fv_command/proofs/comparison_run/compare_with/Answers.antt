@@ -5,7 +5,7 @@ use Rattle.fv_command.specs.inner.RunSteps.{verdict_of}
 use Rattle.fv_command.specs.declared.status.Status.TheVariants.{Done, Different}
 use Rattle.fv_command.proofs.comparison_run.compare_with.Goals as goal
 
--- the status of a comparison
+-- the status of a comparison is Done if the volumes have the same meaning, and otherwise Different
 verdict_is : (m k : Meaning) (same : Bool) → ((same ≡ true) ↔ (m ≡ k))
     → ((verdict_of same ≡ Done) × (m ≡ k)) ⊎ ((verdict_of same ≡ Different) × (m ≢ k))
 verdict_is m k true is = inl (refl, is.0 refl)

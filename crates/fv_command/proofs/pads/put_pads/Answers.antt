@@ -6,7 +6,7 @@ use Rattle.fv_tree.specs.Words.{Accepted, Meaning, head_of}
 use Rattle.fv_lines.specs.Words.{pad_notes}
 use Rattle.fv_command.proofs.pads.put_pads.Goals as goal
 
--- the header of a volume that is read has the extent of the volume
+-- the extent that is found in the header is the extent with which the volume was read
 same_extent : (b : List ℕ) (m : Meaning) (e : Extent) (r : Result Extent Fault) (a : Accepted b m)
     → ((h : HeadFields) (x : Extent) → BeginsVolume h x b → r ≡ Ok x) → r ≡ Ok e → a.1.extent ≡ e
 same_extent b m e r (bytes, d) only is = cc (only (head_of m) d.extent d.begins)

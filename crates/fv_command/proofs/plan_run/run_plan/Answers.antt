@@ -7,6 +7,7 @@ use Rattle.fv_command.specs.inner.RunSteps.{Written}
 use Rattle.fv_text.specs.Words.{PortView, port_view, view_of}
 use Rattle.fv_command.proofs.plan_run.run_plan.Goals as goal
 
+-- if a sink that was on took a text, the text was written, or the first bytes of it
 written : (old new : PortState) (was on : Bool) (text : List ℕ) → was ≡ true → LatchedWrites old was text new on
     → Written on text (port_view old.contents old.erred) (port_view new.contents new.erred)
 written old new true true text was (bytes, fine) = (bytes.0, fine)
@@ -17,7 +18,7 @@ written old new false on text was takes = cc
 abbrev shows : {W : Type 0} → (W → Option (List ℕ)) → WriteSink W → PortState
 shows known_bytes s = record { contents = known_bytes (inner_of (port_of s)); erred = has_erred (port_of s); count = written_count s }
 
--- if a sink over a port took a text, the text was written to the port, or the first bytes of it
+-- so if a sink over a port took a text, the text was written to the port, or the first bytes of it
 sink_wrote : {W : Type 0} (known_bytes : W → Option (List ℕ)) (s t : WriteSink W) (old : Port W) (new : PortView) (text : List ℕ) (whole : Bool)
     → port_of s ≡ old → is_writing s ≡ true
     → LatchedWrites (shows known_bytes s) (is_writing s) text (shows known_bytes t) (is_writing t)

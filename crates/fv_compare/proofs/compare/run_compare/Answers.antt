@@ -11,6 +11,7 @@ use Rattle.fv_compare.proofs.compare.run_compare.Goals as goal
 
 -- ---- after both inputs are read
 
+-- if the comparison of two volumes that were read stops, the run stops on the same side with the same fault
 comparison_stops : (side : Side) (f : Fault) (m k : Meaning) (unread left unread' left' held holds : Option (List ℕ))
     → ReadsVolume unread left m → ReadsVolume unread' left' k → ComparisonStops side m k held holds f
     → SideStopsRun side unread left unread' left' held holds f
@@ -25,13 +26,14 @@ comparison_stops sides.Output f m k unread left unread' left' held holds p q sto
 unread_kind : (unread left : Option (List ℕ)) (f : Fault) → ReadStops unread left f → f.kind ≢ kinds.WriteFault
 unread_kind unread left f stops is = grind (arith, common_steps)
 
+-- a fault of the comparison is not a fault of a reader
 not_read : (side : Side) (f : Fault) (m k : Meaning) (held holds : Option (List ℕ)) → ComparisonStops side m k held holds f
     → f.kind ≢ kinds.ReadFault
 not_read sides.First f m k held holds (keeps, want, differ) is = cc
 not_read sides.Second f m k held holds stops is = absurd stops
 not_read sides.Output f m k held holds stops is = cc (stops.kind)
 
--- a fault of the comparison is not a fault of a reader
+-- so a clause about faults of a reader is true after a fault of the comparison
 never_read : (Q : Side → Type 0) (P : Type 0) (r : Result Bool (Side × Fault)) (m k : Meaning) (held holds : Option (List ℕ))
     → IfErr r (λ e. ComparisonStops e.0 m k held holds e.1) → IfErr r (λ e. Q e.0 → e.1.kind ≡ kinds.ReadFault → P)
 never_read Q P r m k held holds stops = grind (arith, common_steps, not_read)

@@ -8,6 +8,7 @@ use Rattle.fv_lines.specs.Words.{IsMapped, IsSpanContent, bytes_in_span}
 use Rattle.fv_lines.specs.declared.hob_text.SpanContent.TheVariants.{Absent}
 use Rattle.fv_lines.proofs.hob_text.span_content.Goals as goal
 
+-- a span that is within the image has as many bytes there as its length says
 part_len : (image : List ℕ) (base : ℕ) (s : Span) → IsMapped base (length image) s → length (bytes_in_span image base s) ≡ s.length
 part_len image base s within = grind (arith, common_steps, length-take-le, length-drop)
 

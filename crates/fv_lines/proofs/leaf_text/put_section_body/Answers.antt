@@ -4,6 +4,7 @@ use Rattle.fv_tree.specs.Words.{BodyMeaning, Leaf, leaf_of, body_of, section_kin
 use Rattle.fv_lines.specs.Words.{LeafText, BodyShown}
 use Rattle.fv_lines.proofs.leaf_text.put_section_body.Goals as goal
 
+-- the text of a leaf is shown for a section with this leaf, and no text for a section without a leaf
 of_body : (kind : ℕ) (body : BodyMeaning) (text : List ℕ) → MatchOption (leaf_of body) (text ≡ []) (λ b. LeafText kind b text)
     → BodyShown kind body text
 of_body kind (Leaf b) text h = h

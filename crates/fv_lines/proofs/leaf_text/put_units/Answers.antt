@@ -3,6 +3,7 @@ use Rattle.fv_base.proofs.Laws.{flat_map, words_of, le_at}
 use Rattle.fv_lines.specs.Words.{unit_text}
 use Rattle.fv_lines.proofs.leaf_text.put_units.Goals as goal
 
+-- the text of the first unit, followed by the text of the units after it, is the text of all units
 units_next : (b : List ℕ) → 2 ≤ length b
     → unit_text (le_at 0 2 b) ++ flat_map unit_text (words_of (drop 2 b)) ≡ flat_map unit_text (words_of b)
 units_next [] l = absurd (omega (arith, l))

@@ -6,6 +6,7 @@ use Rattle.fv_tree.proofs.LookupLaws.{numbered_is}
 use Rattle.fv_tree.proofs.lookup.section_lookup.Goals.{After-numbered}
 use Rattle.fv_tree.proofs.lookup.section_lookup.Goals as goal
 
+-- the numbered section is the instance of the type among the sections in the file's data
 found : (c : After-numbered) → c.numbered.result
     ≡ section_of_type c.args.kind c.args.instance (sections_in_data (content_of c.args.file.now))
 found c =

@@ -9,7 +9,7 @@ use Rattle.fv_tree.proofs.LocatedLaws.{begun_data, located_stand, one_files}
 use Rattle.fv_tree.proofs.RefusalLaws.{files_refused}
 use Rattle.fv_tree.proofs.stored_files.located_files.Goals as goal
 
--- the files of a volume, with their data in all bytes
+-- the files are the files of the volume that the bytes begin with, and their data are cut out of all bytes
 pub returns-clause-found : goal.returns-clause-found
 returns-clause-found c =
     let front = c.in_ok-extent.ensures.found in

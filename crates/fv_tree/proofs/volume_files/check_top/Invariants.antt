@@ -2,7 +2,7 @@ use Rattle.std.proofs.Common.{◌≡◌, ◌+◌, List, ℕ, map, drop, length}
 use Rattle.fv_tree.specs.Words.{file_form, TopAtEnd}
 use Rattle.fv_tree.proofs.volume_files.check_top.Given as goal
 
--- a volume top file among all files is at the end if one among the files that are left is
+-- the files that were passed are not volume top files, so all files obey the rule if the files that are left obey it
 abbrev pub invariant-loop-file : goal.invariant-loop-file
 invariant-loop-file l = record {
   count : l.left + l.file-index ≡ length l.files;
