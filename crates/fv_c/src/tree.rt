@@ -259,12 +259,15 @@ fn row_count(volume: &VolumeView<'_>) -> usize {
     let mut count: usize = 1;
     for file in volume.files() {
         count = count.saturating_add(1);
-        let part = Part::File(file);
-        if let Parts::Nothing = parts_in(&part) {
-            continue;
-        }
-        for _row in TreeWalk::inside(&part) {
+        for section in file.sections() {
             count = count.saturating_add(1);
+            let part = Part::Section(section);
+            if let Parts::Nothing = parts_in(&part) {
+                continue;
+            }
+            for _row in TreeWalk::inside(&part) {
+                count = count.saturating_add(1);
+            }
         }
     }
     count
