@@ -1,7 +1,7 @@
 #!/usr/bin/env python3
 # SPDX-License-Identifier: BSD-2-Clause-Patent
 """Writes inputs that are meant to be costly, runs the built program over each of them, and prints the cost of each run.
-A run must take at most 3 seconds of processor time (10 with --sums, which digests each byte twice at each level), or
+A run must take at most 3 seconds of processor time (20 with --sums, which digests each byte twice at each level), or
 this time for each 16 MiB of a larger input. Its peak of memory must be at most twice its input and 64 MiB. For the
 inputs in RATIOS, another multiple takes the place of 2. README.md describes more."""
 
