@@ -4,7 +4,7 @@
 --    rows, the list is `rows_held` of this row (`held_at`).
 -- 2. `Under` states which of the rows of consecutive parts have the parent k: the rows of these parts, if row k is
 --    their parent, and the rows in `held_from`. `Under` is true of the rows of any parts (`under_nodes`).
--- 3. So `Under` is true of the rows inside a volume, whose parent is row 0 (`under_volume`).
+-- 3. So `Under` is true of the rows inside a volume, whose parent is the first row (`under_volume`).
 use Rattle.std.proofs.Common.{◌≡◌, ◌∙◌, ℕ, ◌+◌, ◌<◌, ◌≤◌, List, [], ◌∷◌, ◌++◌, length, true, false, cond, refl, sym, ap}
 use Rattle.std.proofs.Common.{append-nil, append_assoc, arith, le_refl, length-append, suc, zero}
 use Rattle.std.proofs.lemmas.Bool.{cond_both, eq-eqb, eqb-true, ne_eqb}
