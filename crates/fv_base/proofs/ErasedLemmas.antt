@@ -14,7 +14,7 @@ use Rattle.std.specs.List.{list_all}
 use Rattle.fv_base.specs.Words.{AllAre, all_are}
 use Rattle.fv_base.proofs.CheckLemmas.{and_split, and_join}
 
-pub all_append : (e : ℕ) (x y : List ℕ) → AllAre e x → AllAre e y → AllAre e (x ++ y)
+all_append : (e : ℕ) (x y : List ℕ) → AllAre e x → AllAre e y → AllAre e (x ++ y)
 all_append e [] y h k = k
 all_append e (a ∷ x) y h k = (h.0, all_append e x y h.1 k)
 
@@ -36,17 +36,17 @@ one_less e [] i l h = absurd (omega arith)
 one_less e (a ∷ x) zero l h = (tt, h.0)
 one_less e (a ∷ x) (suc i) l h = let r = one_less e x i (omega arith) h.1 in ((h.0, r.0), r.1)
 
-pub or_none : (a b : ℕ) → bit_or a b ≡ 0 → (a ≡ 0) × (b ≡ 0)
+or_none : (a b : ℕ) → bit_or a b ≡ 0 → (a ≡ 0) × (b ≡ 0)
 or_none a b h = (omega (arith, le_or_l a b, h), omega (arith, le_or_r a b, h))
 
-pub xor_none : (a b : ℕ) → bit_xor a b ≡ 0 → a ≡ b
+xor_none : (a b : ℕ) → bit_xor a b ≡ 0 → a ≡ b
 xor_none a b h = same_from_bits a b (λ i.
     same_bit (bit_at a i) (bit_at b i) (bit_at-lt a i) (bit_at-lt b i) (sym (bit_at_xor a b i) ∙ ap (λ n. bit_at n i) h ∙ bit_at-zero i))
   where
     same_bit : (x y : ℕ) → x < 2 → y < 2 → (x + y) % 2 ≡ 0 → x ≡ y
     same_bit x y l m e = omega arith
 
-pub xor_same : (a : ℕ) → bit_xor a a ≡ 0
+xor_same : (a : ℕ) → bit_xor a a ≡ 0
 xor_same a = grind (arith, common_steps, bit_at-zero)
 
 -- after one more byte is compared, `seen` is still 0 exactly if all bytes up to here are `e`

@@ -48,7 +48,7 @@ sum_is_right l a payload h = grind (arith, common_steps, summed_with, eq-eqb)
 sum_small : (a : ℕ) (payload : List ℕ) → file_sum_for a payload < 256
 sum_small a payload = grind (arith, common_steps, complement_small)
 
-pub length-stored_header : (system : FileSystem) (p : Polarity) (f : StoredFile) → Storable system f
+length-stored_header : (system : FileSystem) (p : Polarity) (f : StoredFile) → Storable system f
     → length (stored_header p f) ≡ head_len_for (length f.payload)
 length-stored_header system p f k = grind (arith, common_steps, length-header)
 

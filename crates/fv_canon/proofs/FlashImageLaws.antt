@@ -96,7 +96,7 @@ same_inside b o other places k all all' (p, i, has, at, low, high) =
     let below = rw (one_length b p i n at v) at high in cc (field_at o p n k low below, field_at other p n k low below)
 
 -- two images in which the volumes at the same places are renewed are equal
-pub renewed_one : (b places o other : List ℕ) → NormalisesEach b places o → NormalisesEach b places other → o ≡ other
+renewed_one : (b places o other : List ℕ) → NormalisesEach b places o → NormalisesEach b places other → o ≡ other
 renewed_one b places o other r s =
     ext_get_or 0 o other (r.length_is ∙ sym s.length_is) (λ k less. unless_apart (get_or o k 0) (get_or other k 0) (λ differ.
     let none = λ (covered : IsCovered b places k). differ (same_inside b o other places k r.volumes s.volumes covered) in

@@ -47,7 +47,7 @@ pub record Here (total e : ℕ) (f : FileMeaning) (s : ℕ) : Type 0 where
   pub ends : s + size_for (data_len_of f) ≤ total
   pub next : up_to_8 (s + size_for (data_len_of f)) ≤ total
 
-pub here_is : (total e : ℕ) (f : FileMeaning) (fs : List FileMeaning) (s : ℕ) (ss : List ℕ) → ArePlaced total e (f ∷ fs) (s ∷ ss)
+here_is : (total e : ℕ) (f : FileMeaning) (fs : List FileMeaning) (s : ℕ) (ss : List ℕ) → ArePlaced total e (f ∷ fs) (s ∷ ss)
     → Here total e f s
 here_is total e f fs s ss placed = grind (arith, common_steps, header_least) steps 400000
 

@@ -50,7 +50,7 @@ two_spans erased total e at x y a b ps place ends l o = (
 -- ---- the files
 
 -- the files are in order, and the walk writes them
-pub files_placed : (system : FileSystem) (p : Polarity) (total e : ℕ) (fs : List StoredFile) (ss : List ℕ) → total % 8 ≡ 0 → e % 8 ≡ 0
+files_placed : (system : FileSystem) (p : Polarity) (total e : ℕ) (fs : List StoredFile) (ss : List ℕ) → total % 8 ≡ 0 → e % 8 ≡ 0
     → e ≤ total → AllByRecursion (Storable system) fs → StartsFollow total e (map stored_item fs) ss
     → InOrder total e (placed_files p e fs ss)
     × (painted (erased_byte p) total e (placed_files p e fs ss) ≡ files_bytes p total e fs ss)

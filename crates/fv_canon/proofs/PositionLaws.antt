@@ -1,6 +1,6 @@
 -- The bytes that a walk writes show each span at its offset and erased bytes elsewhere, and no other bytes do. The
 -- steps:
--- 1. The bytes that the walk writes show the spans (`walk_shows`, `shows_walk`), and have the full length
+-- 1. The bytes that the walk writes show the spans (`shows_after`, `shows_walk`), and have the full length
 --    (`walk_length`).
 -- 2. Two lists of bytes that show the same spans are equal (`shows_one`). So bytes that show the spans are the bytes
 --    that the walk writes (`one_image`).
@@ -27,7 +27,7 @@ dropped b front back e at is long =
     rw (← long) (sym (drop-drop (length front) e b) ∙ ap (drop (length front)) is ∙ drop_at front back (length front) refl)
 
 -- the walk writes all bytes from e up to the total length
-pub walk_length : (erased total e : ℕ) (ps : List PlacedBytes) → InOrder total e ps → e + length (painted erased total e ps) ≡ total
+walk_length : (erased total e : ℕ) (ps : List PlacedBytes) → InOrder total e ps → e + length (painted erased total e ps) ≡ total
 walk_length erased total e [] o = let g = length-replicate (total - e) erased in omega arith
 walk_length erased total e (p ∷ ps) o =
     grind (arith, common_steps, walk_length erased total (p.at + length p.bytes) ps o.1, length-replicate, length-append) steps 400000
@@ -40,15 +40,15 @@ unless_apart a b same = ⊎_elim (λ e. e) same (cases_eq a b)
 
 -- if b has `total` bytes, and the walk writes the bytes of b from e on, b shows the spans after e, and erased bytes
 -- elsewhere after e
-walk_shows : (erased total e : ℕ) (ps : List PlacedBytes) (b : List ℕ) → length b ≡ total → drop e b ≡ painted erased total e ps
+shows_after : (erased total e : ℕ) (ps : List PlacedBytes) (b : List ℕ) → length b ≡ total → drop e b ≡ painted erased total e ps
     → InOrder total e ps → AllByRecursion (ContainsSpan b) ps
     × ((k : ℕ) → e ≤ k → k < total → AllByRecursion (λ p. IsIn k p → ⊥) ps → get_or b k 0 ≡ erased)
-walk_shows erased total e [] b long is o = (tt, λ k low high none. erased_at b [] e (total - e) k erased (is ∙ sym (append-nil (replicate (total - e) erased))) low (omega (arith, low, high)))
-walk_shows erased total e (p ∷ ps) b long is o =
+shows_after erased total e [] b long is o = (tt, λ k low high none. erased_at b [] e (total - e) k erased (is ∙ sym (append-nil (replicate (total - e) erased))) low (omega (arith, low, high)))
+shows_after erased total e (p ∷ ps) b long is o =
     let behind = painted erased total (p.at + length p.bytes) ps in
     let here : drop p.at b ≡ p.bytes ++ behind = dropped b (replicate (p.at - e) erased) (p.bytes ++ behind) e p.at
     (is ∙ append_assoc (replicate (p.at - e) erased) p.bytes behind) (omega (arith, length-replicate (p.at - e) erased, o.0)) in
-    let later = walk_shows erased total (p.at + length p.bytes) ps b long (dropped b p.bytes behind p.at (p.at + length p.bytes) here refl) o.1 in
+    let later = shows_after erased total (p.at + length p.bytes) ps b long (dropped b p.bytes behind p.at (p.at + length p.bytes) here refl) o.1 in
     let within : p.at + length p.bytes ≤ length b = omega (arith, walk_length erased total (p.at + length p.bytes) ps o.1, long) in (
       ((within, ap (take (length p.bytes)) here ∙ take_at p.bytes behind (length p.bytes) refl), later.0),
       λ k low high none. elim (cases_lt k p.at) [
@@ -64,7 +64,7 @@ walk_shows erased total e (p ∷ ps) b long is o =
 pub shows_walk : (erased total : ℕ) (ps : List PlacedBytes) → InOrder total 0 ps → ShowsPlaced total erased ps (painted erased total 0 ps)
 shows_walk erased total ps o =
     let long : length (painted erased total 0 ps) ≡ total = omega (arith, walk_length erased total 0 ps o) in
-    let shown = walk_shows erased total 0 ps (painted erased total 0 ps) long refl o in
+    let shown = shows_after erased total 0 ps (painted erased total 0 ps) long refl o in
     record { length_is = long; contained = shown.0; rest = λ k. shown.1 k (omega arith) }
 
 -- ---- only one list of bytes shows the spans

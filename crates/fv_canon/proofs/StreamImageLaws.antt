@@ -70,7 +70,7 @@ pub record FrameAgain (n : ℕ) (s : SectionMeaning) (f g : FrameForm) : Type 0 
   pub bytes : (rest : List ℕ) → IsBytes rest → IsBytes (section_head_of g.kind g.extended (length g.body) ++ (g.body ++ rest))
   pub meant : AllByRecursion (MeantBelow (suc n)) (volumes_in_section s)
 
-pub frame_again : (n : ℕ) → SectionsAgain (suc n) (MeansSection n) → (s : SectionMeaning) (f g : FrameForm) (b rest : List ℕ) → IsBytes b
+frame_again : (n : ℕ) → SectionsAgain (suc n) (MeansSection n) → (s : SectionMeaning) (f g : FrameForm) (b rest : List ℕ) → IsBytes b
     → BeginsFrame f b rest → MeansSection n f s → IsFrame s g → FrameAgain n s f g
 frame_again n again s f g b rest small begun is image =
     let a = again s f g (begun_bytes f b rest small begun).0 is image in

@@ -45,7 +45,7 @@ stored_adds p f =
     joined h d s b e = grind (arith, common_steps)
 
 -- a file with the checksum attribute adds only its State
-pub summed_adds : (p : Polarity) (m : FileMeaning) (starts : List ℕ) (t u : ℕ) → is_summed (attributes_of m) ≡ true
+summed_adds : (p : Polarity) (m : FileMeaning) (starts : List ℕ) (t u : ℕ) → is_summed (attributes_of m) ≡ true
     → u % 256 ≡ (t + sum (state_byte p ∷ [])) % 256 → u % 256 ≡ (t + sum (stored_bytes p (stored_file m starts))) % 256
 summed_adds p (File name kind attributes content) starts t u is e =
     omega (arith, e, stored_adds p (stored_file (File name kind attributes content) starts) ∙ ap (λ (b : Bool). (if b then state_byte p else (fixed_checksum + state_byte p + sum (data_of content starts))) % 256) is)

@@ -236,7 +236,7 @@ pub volume_of : (is_stream : StreamRelation) (b : List ℕ) (m : Meaning) (e : E
     → length b ≡ e.length → AreFilesOf e b files → Pairwise (MeansFile is_stream) files (files_of m) → VolumeOver is_stream b m
 volume_of is_stream b m e files front whole contained meanings = grind (arith, common_steps)
 
-pub volume_again : (n : ℕ) → StreamsAgain (suc n) (Stream n) → VolumesAgain (suc n) (Denotes n)
+volume_again : (n : ℕ) → StreamsAgain (suc n) (Stream n) → VolumesAgain (suc n) (Denotes n)
 volume_again n streams (Volume h files) b o small d (stored, starts, are, placed, shows) =
     let p : Polarity = polarity_of h.attributes in
     let first : ℕ = first_edge h h.ext in

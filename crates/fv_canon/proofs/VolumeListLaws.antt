@@ -18,7 +18,7 @@ use Rattle.fv_placement.proofs.Laws.{follow_length}
 
 -- ---- the starts of the files of two lists of volumes
 
-pub laid_split : (own : Meaning → List ℕ → Type 0) (vs ws : List Inside) (starts : List ℕ) → StartsOfEach own (vs ++ ws) starts
+laid_split : (own : Meaning → List ℕ → Type 0) (vs ws : List Inside) (starts : List ℕ) → StartsOfEach own (vs ++ ws) starts
     → (here : List ℕ) × (behind : List ℕ) × (starts ≡ here ++ behind) × StartsOfEach own vs here × StartsOfEach own ws behind
 laid_split own [] ws starts laid = ([], starts, refl, refl, laid)
 laid_split own (v ∷ vs) ws starts (first, inner, text, p, r) =
@@ -38,11 +38,11 @@ laid_deeper own vs starts laid = rw (← append-nil (deeper vs), laid_level own 
 pub own_count : (m : Meaning) (own : List ℕ) → AreStarts m own → length own ≡ length (files_of m)
 own_count m own placed = follow_length _ _ (placement_items m) own placed.placement.follow ∙ length-map (files_of m) placement_item
 
-pub laid_count : (vs : List Inside) (starts : List ℕ) → StartsOfEach AreStarts vs starts → length starts ≡ starts_in vs
+laid_count : (vs : List Inside) (starts : List ℕ) → StartsOfEach AreStarts vs starts → length starts ≡ starts_in vs
 laid_count [] starts laid = ap length laid
 laid_count (v ∷ vs) starts (own, inner, text, placed, laid) = grind (arith, common_steps, own_count, laid_count vs inner laid, length-append)
 
-pub count_joined : (vs ws : List Inside) → starts_in (vs ++ ws) ≡ starts_in vs + starts_in ws
+count_joined : (vs ws : List Inside) → starts_in (vs ++ ws) ≡ starts_in vs + starts_in ws
 count_joined [] ws = omega arith
 count_joined (v ∷ vs) ws = omega (arith, count_joined vs ws)
 

@@ -47,7 +47,7 @@ pub record VolumeLaid (h : HeadFields) (fs : List FileMeaning) (starts : List �
 least_first : (h : HeadFields) (x : Option Extension) → 64 ≤ first_edge h x
 least_first h x = grind (arith, common_steps)
 
-pub volume_laid : (h : HeadFields) (fs : List FileMeaning) (starts : List ℕ) → IsMeaning (Volume h (files_from fs))
+volume_laid : (h : HeadFields) (fs : List FileMeaning) (starts : List ℕ) → IsMeaning (Volume h (files_from fs))
     → BeginsWithStarts (volumes_in (Volume h (files_from fs))) starts → VolumeLaid h fs starts
 volume_laid h fs starts (k, few, b, small, d) begins =
     let files : FileMeanings = files_from fs in

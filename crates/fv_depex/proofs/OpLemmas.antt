@@ -26,7 +26,7 @@ pub record IsOpOf (code : ℕ) (g : Guid) (o : Op) : Type 0 where
 below_10 : (P : ℕ → Type 0) → P 0 → P 1 → P 2 → P 3 → P 4 → P 5 → P 6 → P 7 → P 8 → P 9 → (n : ℕ) → n ≤ 9 → P n
 below_10 P a b c d e f g h i j n l = grind (arith, common_steps)
 
-pub op_of_code : (g : Guid) (code : ℕ) → code ≤ 9 → IsOpOf code g (op_by code g)
+op_of_code : (g : Guid) (code : ℕ) → code ≤ 9 → IsOpOf code g (op_by code g)
 op_of_code g = grind (arith, common_steps, below_10)
 
 -- a property that the ops with each code have is a property of every op

@@ -22,7 +22,7 @@ use Rattle.fv_depex.specs.declared.op_stage.Stage.TheVariants as stages
 
 -- ---- paths, joined
 
-pub path_join : (phase : Phase) (s m f : Stage) (xs ys : List Op) → OpPath phase s xs m → OpPath phase m ys f → OpPath phase s (xs ++ ys) f
+path_join : (phase : Phase) (s m f : Stage) (xs ys : List Op) → OpPath phase s xs m → OpPath phase m ys f → OpPath phase s (xs ++ ys) f
 path_join phase s m f [] ys p q = subst (λ (k : Stage). OpPath phase k ys f) (sym p) q
 path_join phase s m f (x ∷ xs) ys p q = (p.0, p.1, path_join phase (stage_after s x) m f xs ys p.2 q)
 
@@ -193,7 +193,7 @@ two_paths phase n t u o p q fits ne after = grind (arith, common_steps, path_joi
 one_less : (n : ℕ) → n + 1 + 1 - 1 ≡ n + 1
 one_less n = omega arith
 
-pub tree_path : (phase : Phase) (n : ℕ) (t : Expression) → AllByRecursion IsSized (postfix t)
+tree_path : (phase : Phase) (n : ℕ) (t : Expression) → AllByRecursion IsSized (postfix t)
     → OpPath phase (stages.Values n) (postfix t) (stages.Values (n + 1))
 tree_path phase n always sized = (fits_value phase n ops.True (omega arith) (omega arith) refl refl, λ e. cc, refl)
 tree_path phase n never sized = (fits_value phase n ops.False (omega arith) (omega arith) refl refl, λ e. cc, refl)

@@ -95,7 +95,7 @@ none_free_behind (c ∷ cs) ds h = none_free_behind cs ds h.1
 
 -- if a check fails at a place of a body, no cells tile the bytes up to a later place; a free cell is allowed only if no
 -- bytes follow
-pub stuck : (which : Which) (s : FileSystem) (p : Polarity) (first : ℕ) (body : List ℕ) (f : Fault) (ds : List CellForm) (part beyond : List ℕ)
+stuck : (which : Which) (s : FileSystem) (p : Polarity) (first : ℕ) (body : List ℕ) (f : Fault) (ds : List CellForm) (part beyond : List ℕ)
     → (x : CellFault which s p first body f) → drop x.at body ≡ part ++ beyond → 0 < length part → (0 < length beyond → NoneFree ds)
     → Tiles s p first ds (take x.at body ++ part) → ⊥
 stuck which s p first body f ds part beyond x e some free t =

@@ -20,7 +20,7 @@ pub cell_span : (s : FileSystem) (p : Polarity) (c : CellForm) (u : List ℕ) �
 cell_span s p c u is = grind (arith, common_steps, filled_span) steps 150000
 
 -- a file has at least the 24 bytes of a header
-pub file_least : (s : FileSystem) (p : Polarity) (head : FileHead) (payload b : List ℕ) → IsFilled s p head payload b → 24 ≤ length b
+file_least : (s : FileSystem) (p : Polarity) (head : FileHead) (payload b : List ℕ) → IsFilled s p head payload b → 24 ≤ length b
 file_least s p head payload b filled = grind (arith, common_steps, length-append, header_least)
 
 pub not_empty : (s : FileSystem) (p : Polarity) → NotEmpty s p

@@ -53,7 +53,7 @@ walk_begins a = record {
 }
 
 -- if a walk passes a cell, at least one byte was left before
-pub walked_some : (a b : CellsLeft) (c : CellForm) → Walked a (c ∷ []) b → 0 < length a.rest
+walked_some : (a b : CellsLeft) (c : CellForm) → Walked a (c ∷ []) b → 0 < length a.rest
 walked_some a b c w = omega (arith, not_empty a.system a.polarity c w.passed (one_passed a b c w).0, ap length w.text, length-append w.passed b.rest)
 
 -- a walk that passed some cells, and then one more cell, passed all these cells

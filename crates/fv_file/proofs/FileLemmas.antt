@@ -28,7 +28,7 @@ front_size false h y l = ap le (field-append_front 20 3 h y (omega arith))
 front_size true h y l = ap le (field-append_front 24 8 h y (omega arith))
 
 -- only the bytes of the header decide its fields
-pub front_head : (st : FileState) (h y : List ℕ) → length h ≡ file_header_len_at h → head_in st (h ++ y) ≡ head_in st h
+front_head : (st : FileState) (h y : List ℕ) → length h ≡ file_header_len_at h → head_in st (h ++ y) ≡ head_in st h
 front_head st h y l =
     let n = header_least (is_large (slice_index h 19)) in
     let e16 = front_byte 16 h y (omega (arith, n, l)) in

@@ -128,10 +128,10 @@ size_is h true state long small = ap (λ (xs : List ℕ). le (take 8 xs)) (drop_
 size_is h false state long small = ap (λ (xs : List ℕ). le (take 3 xs)) (drop_behind 4 (bytes_of h.name) _ long) ∙ le-le_bytes 3 h.size small
 
 -- the Size field of a large header is zero
-zero_size : (h : FileHead) (large : Bool) (state : ℕ) → length (bytes_of h.name) ≡ 16 → large ≡ true
+large_size_zero : (h : FileHead) (large : Bool) (state : ℕ) → length (bytes_of h.name) ≡ 16 → large ≡ true
     → le_at 20 3 (bytes_of h.name ++ rest_of h large state) ≡ 0
-zero_size h true state long is = ap (λ (xs : List ℕ). le (take 3 xs)) (drop_behind 4 (bytes_of h.name) (rest_of h true state) long)
-zero_size h false state long is = cc
+large_size_zero h true state long is = ap (λ (xs : List ℕ). le (take 3 xs)) (drop_behind 4 (bytes_of h.name) (rest_of h true state) long)
+large_size_zero h false state long is = cc
 
 -- the fields of a written header are read again
 fields_are : (h : FileHead) (large : Bool) (state : ℕ) → length (bytes_of h.name) ≡ 16 → is_large (attribute_bits h.attributes) ≡ large
@@ -156,16 +156,16 @@ length_is h true state long = length-append (bytes_of h.name) (rest_of h true st
 length_is h false state long = length-append (bytes_of h.name) (rest_of h false state) ∙ ap (λ (n : ℕ). n + 8) long
 
 -- the State byte of a new file shows that its data are valid
-state_is : (polarity : Polarity) → StateOf (state_byte polarity) polarity states.DataValid
+state_byte_is : (polarity : Polarity) → StateOf (state_byte polarity) polarity states.DataValid
 unfolding state_of
-state_is Ones = refl
-state_is Zeros = refl
+state_byte_is Ones = refl
+state_byte_is Zeros = refl
 
 -- a header with the right header checksum is the new header of its fields
 written_with : (polarity : Polarity) (h : FileHead) (large : Bool) → length (bytes_of h.name) ≡ 16
     → is_large (attribute_bits h.attributes) ≡ large → h.size < size_limit large → (bare_sum h large + h.header_sum) % 256 ≡ 0
     → IsBytes (spelled h large (state_byte polarity)) → IsNewHeader polarity (formed h large) (spelled h large (state_byte polarity))
-written_with polarity h large long is small right bytes = grind (arith, common_steps, header_parts, at_behind, length_is, fields_are, state_is, zero_size, header_sum_is)
+written_with polarity h large long is small right bytes = grind (arith, common_steps, header_parts, at_behind, length_is, fields_are, state_byte_is, large_size_zero, header_sum_is)
 
 -- the header checksum of a header is byte 16
 sum_at : (h : FileHead) (large : Bool) (state : ℕ) → length (bytes_of h.name) ≡ 16 → slice_index (spelled h large state) 16 ≡ h.header_sum

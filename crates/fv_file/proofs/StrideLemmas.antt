@@ -52,7 +52,7 @@ stub_stride : (p : Polarity) (u w : List ℕ) (st : FileState) → is_unfinished
 stub_stride p u w st unfinished state len = grind (arith, common_steps, header_least, front_byte, length-append)
 
 -- if a cell that is not free begins the bytes, the next header begins at its end
-pub cell_stride : (s : FileSystem) (p : Polarity) (c : CellForm) (u w : List ℕ) → IsCell s p c u → is_free c ≡ false
+cell_stride : (s : FileSystem) (p : Polarity) (c : CellForm) (u w : List ℕ) → IsCell s p c u → is_free c ≡ false
     → Stride p (u ++ w) (length u)
 cell_stride s p (Valid at head payload) u w is f = file_stride s p head payload u w is.0 ((sorted head.state).finished is.1)
 cell_stride s p (Pad at head payload) u w is f = file_stride s p head payload u w is.0 ((sorted head.state).finished is.1)
@@ -102,7 +102,7 @@ one_counted p count n body rest after counted long used stride behind = λ s fir
     (m.0, m.1, m.2, omega (arith, m.3, k.3))
 
 -- if no bytes are left, no cell is left; if any bytes are left, and no header is there, one free cell is left
-pub free_left : (s : FileSystem) (p : Polarity) (at : ℕ) (ds : List CellForm) (rest : List ℕ) → Tiles s p at ds rest
+free_left : (s : FileSystem) (p : Polarity) (at : ℕ) (ds : List CellForm) (rest : List ℕ) → Tiles s p at ds rest
     → (24 ≤ length rest → slice_index rest 23 ≡ erased_byte p)
     → (length rest ≡ 0 → length ds ≡ 0) × (0 < length rest → length ds ≡ 1)
 free_left s p at [] rest t ends = (λ e. refl, λ l. absurd (omega (arith, ap length t, l)))

@@ -19,7 +19,7 @@ use Rattle.fv_base.specs.declared.fault.FaultKind.TheVariants as kinds
 -- ---- 1. one after another
 
 -- removing the mark at a place does not change the bytes before this place
-pub front_unmarked : (p : ℕ) (b : List ℕ) → take p (unmarked p b) ≡ take p b
+front_unmarked : (p : ℕ) (b : List ℕ) → take p (unmarked p b) ≡ take p b
 front_unmarked p b = take-set-le p (slice_set b (p + 16) ((slice_index b (p + 16) + 4) % 256)) (p + 19) (slice_index b (p + 19) - 4) (omega arith)
     ∙ take-set-le p b (p + 16) ((slice_index b (p + 16) + 4) % 256) (omega arith)
 

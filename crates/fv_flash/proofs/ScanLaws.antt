@@ -22,7 +22,7 @@ some_length : (b : List ℕ) (h : HeadFields) (e : Extent) → BeginsVolume h e 
 some_length b h e f = grind (arith, common_steps)
 
 -- a volume has at least 64 bytes, and a multiple of 8, and lies within the bytes
-pub at_least : (b : List ℕ) (k n : ℕ) → VolumeAt b k n → 64 ≤ n
+at_least : (b : List ℕ) (k n : ℕ) → VolumeAt b k n → 64 ≤ n
 at_least b k n v = omega (arith, v.3, (some_length (drop k b) v.0 v.1 v.2).0)
 
 pub at_multiple : (b : List ℕ) (k n : ℕ) → VolumeAt b k n → n % 8 ≡ 0
@@ -91,7 +91,7 @@ signature_at b at n e =
     ∙ ap (λ l. bytes_eq (take 4 l) signature_bytes) (sym (drop-drop 40 at b))
 
 -- the volumes from a place on begin at one list of places
-pub one_walk : (from : ℕ) (b xs ys : List ℕ) → FoundFrom from b xs → FoundFrom from b ys → xs ≡ ys
+one_walk : (from : ℕ) (b xs ys : List ℕ) → FoundFrom from b xs → FoundFrom from b ys → xs ≡ ys
 one_walk from b [] [] f g = refl
 one_walk from b [] (p ∷ ps) f (m, (l, e, none, v), rest) = absurd (f p m l e v)
 one_walk from b (o ∷ os) [] (n, (l, e, none, v), rest) g = absurd (g o n l e v)

@@ -36,7 +36,7 @@ by_eights P none more (a ∷ b ∷ c ∷ d ∷ e ∷ f ∷ []) h = absurd (omega
 by_eights P none more (a ∷ b ∷ c ∷ d ∷ e ∷ f ∷ g ∷ []) h = absurd (omega arith)
 by_eights P none more (a ∷ b ∷ c ∷ d ∷ e ∷ f ∷ g ∷ i ∷ xs) h = more a b c d e f g i xs (by_eights P none more xs (omega arith))
 
-pub pairs_of-append : (xs ys : List ℕ) → length xs % 8 ≡ 0 → pairs_of (xs ++ ys) ≡ pairs_of xs ++ pairs_of ys
+pairs_of-append : (xs ys : List ℕ) → length xs % 8 ≡ 0 → pairs_of (xs ++ ys) ≡ pairs_of xs ++ pairs_of ys
 pairs_of-append xs ys =
     by_eights (λ zs. pairs_of (zs ++ ys) ≡ pairs_of zs ++ pairs_of ys) refl
     (λ a b c d e f g i zs rest. ap (λ (ps : List (ℕ × ℕ)). (le (a ∷ b ∷ c ∷ d ∷ []), le (e ∷ f ∷ g ∷ i ∷ [])) ∷ ps) rest) xs
@@ -54,7 +54,7 @@ last-injective (x ∷ xs) (y ∷ ys) p q h =
     (rw (head, ih.0) refl, ih.1)
 
 -- the eight bytes at an offset are one pair of the two numbers there
-pub last_pair : (at : ℕ) (b : List ℕ) → at + 8 ≤ length b → pairs_of (take 8 (drop at b)) ≡ (le_at at 4 b, le_at (at + 4) 4 b) ∷ []
+last_pair : (at : ℕ) (b : List ℕ) → at + 8 ≤ length b → pairs_of (take 8 (drop at b)) ≡ (le_at at 4 b, le_at (at + 4) 4 b) ∷ []
 last_pair at b h =
     let d : List ℕ = drop at b in
     let long : 8 ≤ length (take 8 d) = simp (length-take, length-drop) (omega arith) in
@@ -83,7 +83,7 @@ block_map_is n b least multiple within =
 pub zero_pair_is : (p : ℕ × ℕ) → is_zero_pair p ≡ true → p ≡ (0, 0)
 zero_pair_is p h = grind (arith, common_steps, and_split, eqb-true)
 
-pub zero_pair_not : (p : ℕ × ℕ) → p ≢ (0, 0) → is_zero_pair p ≡ false
+zero_pair_not : (p : ℕ × ℕ) → p ≢ (0, 0) → is_zero_pair p ≡ false
 zero_pair_not p h = grind (arith, common_steps, zero_pair_is)
 
 pub none_zero : (ps : List (ℕ × ℕ)) → list_all (λ p. not (is_zero_pair p)) ps ≡ true → AllByRecursion (λ p. p ≢ (0, 0)) ps

@@ -22,7 +22,7 @@ length-held : (kind : ℕ) (payload : List ℕ) → length (kept_payload kind pa
 length-held kind payload = grind (arith, common_steps, eqb-true)
 
 -- entries and their tail have together the length of the bytes that they split
-pub length-entries : (es : List (ℕ × List ℕ)) (tail b : List ℕ) → SplitsEntries es tail b → entries_len es + length tail ≡ length b
+length-entries : (es : List (ℕ × List ℕ)) (tail b : List ℕ) → SplitsEntries es tail b → entries_len es + length tail ≡ length b
 length-entries [] tail b h = omega (arith, ap length h.0)
 length-entries (e ∷ es) tail b (head, payload, rest, text, four, size, kind, kept, more) =
     let is = begins b head payload rest text four size in
@@ -39,7 +39,7 @@ held-payload_with : (used : ℕ) (e : ℕ × List ℕ) (payload : List ℕ) → 
 held-payload_with used e payload kept = grind (arith, common_steps, length-held)
 
 -- entries that are written, followed by the tail, are read again as these entries and this tail
-pub entries_again : (es : List (ℕ × List ℕ)) (tail b : List ℕ) (used : ℕ) → IsBytes b → length b ≤ ext_limit → SplitsEntries es tail b
+entries_again : (es : List (ℕ × List ℕ)) (tail b : List ℕ) (used : ℕ) → IsBytes b → length b ≤ ext_limit → SplitsEntries es tail b
     → SplitsEntries es tail (entries_bytes used es ++ tail)
 entries_again [] tail b used small most h = (refl, subst BeginNoEntry h.0 h.1)
 entries_again (e ∷ es) tail b used small most (head, payload, rest, text, four, size, kind, kept, more) =

@@ -50,7 +50,7 @@ pair_is : (e f : ℕ × List ℕ) → e.0 ≡ f.0 → e.1 ≡ f.1 → e ≡ f
 pair_is e f p q = ap (λ (n : ℕ). (n, e.1)) p ∙ ap (λ (xs : List ℕ). (f.0, xs)) q
 
 -- bytes split into entries and a tail in at most one way
-pub one_entries : (es fs : List (ℕ × List ℕ)) (tail other b : List ℕ) → SplitsEntries es tail b → SplitsEntries fs other b
+one_entries : (es fs : List (ℕ × List ℕ)) (tail other b : List ℕ) → SplitsEntries es tail b → SplitsEntries fs other b
     → (es ≡ fs) × (tail ≡ other)
 one_entries [] [] tail other b first second = (refl, sym first.0 ∙ second.0)
 one_entries [] (f ∷ fs) tail other b first (head, payload, rest, text, four, size, kind, kept, more) =
@@ -69,7 +69,7 @@ one_entries (e ∷ es) (f ∷ fs) tail other b (head, payload, rest, text, four,
     (ap (λ (x : ℕ × List ℕ). x ∷ es) (pair_is e f kinds kepts) ∙ ap (λ (xs : List (ℕ × List ℕ)). f ∷ xs) others.0, others.1)
 
 -- an entry at the front, and the entries and the tail of the bytes after it, split the bytes
-pub entry_before : (b : List ℕ) (n : ℕ) (e : ℕ × List ℕ) (es : List (ℕ × List ℕ)) (tail : List ℕ) → n ≡ le_at 0 2 b → 4 ≤ n → n ≤ length b
+entry_before : (b : List ℕ) (n : ℕ) (e : ℕ × List ℕ) (es : List (ℕ × List ℕ)) (tail : List ℕ) → n ≡ le_at 0 2 b → 4 ≤ n → n ≤ length b
     → e.0 ≡ le_at 2 2 b → e.1 ≡ kept_payload e.0 (field 4 (n - 4) b) → SplitsEntries es tail (drop n b) → SplitsEntries (e ∷ es) tail b
 entry_before b n e es tail size least within kind kept more =
     let head : List ℕ = take 4 b in
@@ -110,7 +110,7 @@ entry_and b long least within (es, tail, more) =
     let e : ℕ × List ℕ = (le_at 2 2 b, kept_payload (le_at 2 2 b) (field 4 (n - 4) b)) in
     (e ∷ es, tail, entry_before b n e es tail refl least within refl refl more)
 
-pub some_entries : (n : ℕ) (b : List ℕ) → length b ≤ n → Split b
+some_entries : (n : ℕ) (b : List ℕ) → length b ≤ n → Split b
 some_entries zero b short = ([], b, (refl, inl (omega (arith, short))))
 some_entries (suc n) b short =
     pick (starts b)
@@ -154,7 +154,7 @@ pub ext_of : (b : List ℕ) (g : Guid) (es : List (ℕ × List ℕ)) (tail : Lis
 ext_of b g es tail least most size name entries = grind (arith, common_steps, take-append-drop, drop-drop, length-take-le, length-drop)
 
 -- bytes with the right size are an extended header
-pub some_ext : (b : List ℕ) → 20 ≤ length b → length b ≤ ext_limit → le_at 16 4 b ≡ length b → (x : Extension) × IsExt x b
+some_ext : (b : List ℕ) → 20 ≤ length b → length b ≤ ext_limit → le_at 16 4 b ≡ length b → (x : Extension) × IsExt x b
 some_ext b least most size =
     let g : Guid = record { bytes = take 16 b } in
     let found = some_entries (length (drop 20 b)) (drop 20 b) (omega arith) in

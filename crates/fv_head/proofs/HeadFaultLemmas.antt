@@ -15,7 +15,7 @@ use Rattle.fv_head.specs.inner.HeadVerdicts.{head_verdict, extent_verdict, exten
 use Rattle.fv_head.proofs.HeadCheckLemmas.{checked, fields_of, front_found}
 use Rattle.fv_base.specs.declared.fault.FaultKind.TheVariants as kinds
 
-pub fault_first : (b : List ℕ) (f : Fault) → head_verdict b ≡ Err f → IsFirstFault (head_checks b) f
+fault_first : (b : List ℕ) (f : Fault) → head_verdict b ≡ Err f → IsFirstFault (head_checks b) f
 fault_first b f h = go (first_fault (head_checks b)) refl h where
   go : (o : Option Fault) → first_fault (head_checks b) ≡ o → extent_verdict o b ≡ Err f → IsFirstFault (head_checks b) f
   go (Some g) is k = first_is (head_checks b) f (is ∙ cc)

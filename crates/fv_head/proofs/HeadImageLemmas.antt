@@ -54,7 +54,7 @@ pairs_bytes-append (p ∷ ps) qs =
 -- ---- a header in parts
 
 -- the HeaderLength that follows from the fields of a header is its length
-pub header_len_is : (h : HeadFields) (b : List ℕ) → IsHead h b → header_len_of h ≡ length b
+header_len_is : (h : HeadFields) (b : List ℕ) → IsHead h b → header_len_of h ≡ length b
 header_len_is h b head =
     let behind : length (drop 56 b) ≡ length b - 56 = length-drop 56 b in
     let count : 8 * length (pairs_of (drop 56 b)) ≡ length (drop 56 b) =
@@ -261,7 +261,7 @@ canonical_front h rest read known there fits long =
 -- ---- sums of words in parts
 
 -- the weight of whole words is the sum of these words
-pub weight-words : (xs : List ℕ) → length xs % 2 ≡ 0 → word_weight false xs ≡ sum (words_of xs)
+weight-words : (xs : List ℕ) → length xs % 2 ≡ 0 → word_weight false xs ≡ sum (words_of xs)
 weight-words [] h = refl
 weight-words (x ∷ []) h = absurd (omega arith)
 weight-words (x ∷ y ∷ xs) h =
@@ -281,7 +281,7 @@ pub words_added : (high : Bool) (xs : List ℕ) (t s : ℕ) → high ≡ false �
 words_added high xs t s low even is = rw (low, high_even xs even, weight-words xs even, is) (refl, omega arith)
 
 -- a header has an even number of bytes
-pub spelled_even : (h : HeadFields) (checksum offset : ℕ) → IsReadHead h → length (head_spelled h checksum offset) % 2 ≡ 0
+spelled_even : (h : HeadFields) (checksum offset : ℕ) → IsReadHead h → length (head_spelled h checksum offset) % 2 ≡ 0
 spelled_even h checksum offset (b, head) = omega (arith, spelled_length h b head checksum offset, head.multiple)
 
 -- a header has at most 2112 bytes

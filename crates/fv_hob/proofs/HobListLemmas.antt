@@ -4,7 +4,7 @@ use Rattle.fv_base.proofs.Laws.{common_steps, AllByRecursion}
 use Rattle.fv_hob.specs.Words.{HobForm, IsHob, hob_type, IsEndHob, IsHobList, IsNotEndHob, JoinsHobs}
 use Rattle.fv_hob.proofs.HobCheckLemmas.{one_block}
 
-pub end_is_none : (g h : HobForm) → h ≡ g → IsNotEndHob h → IsEndHob g → ⊥
+end_is_none : (g h : HobForm) → h ≡ g → IsNotEndHob h → IsEndHob g → ⊥
 end_is_none g h e other end = other (ap (λ (f : HobForm). hob_type f.kind) e ∙ end)
 
 -- joined blocks and one more block are joined
@@ -49,7 +49,7 @@ same_front (h ∷ hs) (g ∷ gs) last c d x y (c', rest, e, is, more) all (d', r
     }
 
 -- bytes begin with at most one list: the same blocks, and the same bytes
-pub one_list : (front front' : List HobForm) (last last' : HobForm) (c d x y : List ℕ) → JoinsHobs (front ++ last ∷ []) c
+one_list : (front front' : List HobForm) (last last' : HobForm) (c d x y : List ℕ) → JoinsHobs (front ++ last ∷ []) c
     → AllByRecursion IsNotEndHob front → IsEndHob last
     → JoinsHobs (front' ++ last' ∷ []) d → AllByRecursion IsNotEndHob front' → IsEndHob last' → c ++ x ≡ d ++ y
     → (front' ++ last' ∷ [] ≡ front ++ last ∷ []) × (d ≡ c)

@@ -30,7 +30,7 @@ one (Valid at head payload) = omega arith
 one c = omega arith
 
 -- so each byte of the cells is counted once
-pub counted_is : (cs : List CellForm) → counted (sums_of cs) ≡ sum_by cell_len cs
+counted_is : (cs : List CellForm) → counted (sums_of cs) ≡ sum_by cell_len cs
 counted_is [] = refl
 counted_is (c ∷ cs) = omega (arith, sum_by-cons {X = CellForm}, counted_is cs, one c)
 

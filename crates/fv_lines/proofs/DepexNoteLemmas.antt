@@ -12,7 +12,7 @@ use Rattle.fv_lines.specs.inner.LineRuns.{PutsNotes}
 -- ---- notes
 
 -- the notes on two lists of expressions, one after the other, are the notes on the joined list
-pub notes_join : (xs ys : List HeldDepex) (ms ns : List DepexNote) → AreNotes xs ms → AreNotes ys ns → AreNotes (xs ++ ys) (ms ++ ns)
+notes_join : (xs ys : List HeldDepex) (ms ns : List DepexNote) → AreNotes xs ms → AreNotes ys ns → AreNotes (xs ++ ys) (ms ++ ns)
 notes_join [] ys ms ns p q = rw p q
 notes_join (x ∷ xs) ys ms ns (inl (s, p)) q = inl (s, notes_join xs ys ms ns p q)
 notes_join (x ∷ xs) ys ms ns (inr (note, rest, is, e, p)) q = inr (note, rest ++ ns, is, rw e, notes_join xs ys rest ns p q)

@@ -26,7 +26,7 @@ number_total = on_total (λ (e : Entry). e.1) nat_cmp_total
 first_total : IsTotalOrder (λ (a b : Entry). halves_cmp a.0 b.0)
 first_total = on_total (λ (e : Entry). e.0) halves_total
 
-pub entry_total : IsTotalOrder entry_cmp
+entry_total : IsTotalOrder entry_cmp
 entry_total = then_total first_total number_total
 
 pub less_orders : IsStrictWeakOrder (λ (a b : Entry). is_lt (entry_cmp a b))

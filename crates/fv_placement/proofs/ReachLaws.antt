@@ -61,7 +61,7 @@ begins_some total e f fs r h w p = from p.starts p.follow
 
 -- ---- 3. the reach of a file and those after it
 
-pub reach_more : (total : ℕ) (f : PlacementItem) (fs : List PlacementItem) (after r : Reach) → total % 8 ≡ 0 → IsReach total fs after
+reach_more : (total : ℕ) (f : PlacementItem) (fs : List PlacementItem) (after r : Reach) → total % 8 ≡ 0 → IsReach total fs after
     → IsGreatest total f after r → IsReach total (f ∷ fs) r
 reach_more total f fs after r h w g = record {
   bound = record {

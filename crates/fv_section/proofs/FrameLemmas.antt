@@ -16,7 +16,7 @@ use Rattle.fv_section.specs.Words.{has_extended_size, section_header_len_at, sec
 use Rattle.fv_section.specs.Words.{FrameForm, BeginsFrame, StatesSize, section_header_len, frame_len}
 use Rattle.fv_section.specs.inner.FrameVerdicts.{frame_verdict}
 
-pub head_least : (extended : Bool) → 4 ≤ section_header_len extended
+head_least : (extended : Bool) → 4 ≤ section_header_len extended
 head_least extended = grind (arith, common_steps)
 
 pub size_least : (f : FrameForm) → 4 ≤ frame_len f
@@ -28,7 +28,7 @@ says_size : (t : Bool) (n : ℕ) (r h : List ℕ) → has_extended_size r ≡ t 
     → n ≡ section_size_in t r → StatesSize t n h
 says_size t n r h is short long e = grind (arith, common_steps, eqb-false, eqb-true)
 
-pub begins_in : (at : ℕ) (r : List ℕ) → AllHold (frame_checks at r) → BeginsFrame (frame_in at r) r (drop (section_size_at r) r)
+begins_in : (at : ℕ) (r : List ℕ) → AllHold (frame_checks at r) → BeginsFrame (frame_in at r) r (drop (section_size_at r) r)
 begins_in at r all =
     let n : ℕ = section_header_len_at r in
     let parts = and_split _ _ all.1.0 in

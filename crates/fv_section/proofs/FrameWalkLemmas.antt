@@ -150,7 +150,7 @@ split_stands fs t b split = from_stands 0 fs t b split
 -- ---- the frames that a walk reads
 
 -- the frames of a stream are the frames that a walk over as many frames reads
-pub walk_meets : (at : ℕ) (fs : List FrameForm) (t : ℕ) (b : List ℕ) → SplitsFrom at fs t (drop at b)
+walk_meets : (at : ℕ) (fs : List FrameForm) (t : ℕ) (b : List ℕ) → SplitsFrom at fs t (drop at b)
     → (frames_from (length fs) at b ≡ fs) × HasFrames (length fs) at b
 walk_meets at [] t b split = (refl, tt)
 walk_meets at (f ∷ fs) t b split =

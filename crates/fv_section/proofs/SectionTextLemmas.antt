@@ -46,7 +46,7 @@ text_found b h =
     even m k h e z = omega arith
 
 -- if bytes are a text and its zero unit, the test holds
-pub text_holds : (b text : List ℕ) → IsText b text → is_text b ≡ true
+text_holds : (b text : List ℕ) → IsText b text → is_text b ≡ true
 text_holds b text is = grind (arith, common_steps, length-append, take_at, drop_at, and_join, le-leb, eq-eqb, none_zero, all-none_zero)
 
 pub text_none : (b text : List ℕ) → is_text b ≡ false → IsText b text → ⊥

@@ -26,7 +26,7 @@ reads_count (h ∷ l ∷ digits) bytes (high, low, rest, is_high, is_low, is, mo
     omega (arith, count, long)
 
 -- if the digits of joined parts spell bytes, and the first part does, the second part does too
-pub reads_rest : (a b x y : List ℕ) → DigitsSpell a x → DigitsSpell (a ++ b) y → (z : List ℕ) × DigitsSpell b z
+reads_rest : (a b x y : List ℕ) → DigitsSpell a x → DigitsSpell (a ++ b) y → (z : List ℕ) × DigitsSpell b z
 reads_rest [] b x y p q = (y, q)
 reads_rest (h ∷ []) b x y p q = absurd p
 reads_rest (h ∷ l ∷ a) b x y p q = reads_rest a b p.2 q.2 p.6 q.6
@@ -51,7 +51,7 @@ nibble : (d v : ℕ) → hex_digit_value d ≡ Some v → value_or_16 d < 16
 nibble d v is = subst (λ (o : Option ℕ). unwrap_or o 16 < 16) (sym is) (value_small d v is)
 
 -- the characters at the start of a text that spells bytes are all digits
-pub all_digits : (a b bytes : List ℕ) → DigitsSpell (a ++ b) bytes → All IsNibble (map value_or_16 a)
+all_digits : (a b bytes : List ℕ) → DigitsSpell (a ++ b) bytes → All IsNibble (map value_or_16 a)
 all_digits [] b bytes all = All-nil IsNibble
 all_digits (h ∷ []) [] bytes all = absurd all
 all_digits (h ∷ []) (l ∷ b) bytes (high, low, rest, is_high, is_low, is, more) =

@@ -36,7 +36,7 @@ module _ (e : Extent) (b o : List ℕ) (same : take e.first o ≡ take e.first b
       ((before, part, drop n o, whole, rw fields offset, low, within, is, at), omega (arith, low, inside))
 
 -- the bytes begin with the same header
-pub header_kept : (b o : List ℕ) (h : HeadFields) (e : Extent) → BeginsVolume h e b → length o ≡ length b → take e.first o ≡ take e.first b
+header_kept : (b o : List ℕ) (h : HeadFields) (e : Extent) → BeginsVolume h e b → length o ≡ length b → take e.first o ≡ take e.first b
     → BeginsVolume h e o
 header_kept b o h e front long same =
     let ext = ext_kept e b o same h.ext (front_lies b h e front).least front.ext in
@@ -63,7 +63,7 @@ kept b o body e u =
     }
 
 -- cells that tile the new body tile the body of the new volume
-pub tiled_there : (b o body : List ℕ) (e : Extent) (cells : List CellForm) → Unfixes e b o body
+tiled_there : (b o body : List ℕ) (e : Extent) (cells : List CellForm) → Unfixes e b o body
     → Tiles e.file_system e.polarity e.first cells body → BeginsTiled e cells o
 tiled_there b o body e cells u tiles =
     let k = kept b o body e u in

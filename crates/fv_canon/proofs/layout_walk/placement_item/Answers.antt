@@ -1,5 +1,5 @@
 use Rattle.fv_base.proofs.Laws.{arith, common_steps}
-use Rattle.fv_canon.proofs.PartBytesLaws.{data_short, head_most}
+use Rattle.fv_canon.proofs.FileItemLaws.{data_short, head_most}
 use Rattle.fv_canon.proofs.layout_walk.placement_item.Goals as goal
 
 pub header_len_for-header-requires : goal.header_len_for-header-requires

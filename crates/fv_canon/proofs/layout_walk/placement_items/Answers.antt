@@ -4,7 +4,7 @@ use Rattle.fv_canon.specs.Words.{placement_item}
 use Rattle.fv_placement.specs.declared.first_placement.PlacementItem.{PlacementItem}
 use Rattle.fv_tree.proofs.Laws.{files_list_back}
 use Rattle.fv_tree.specs.Words.{FileMeaning, files_of}
-use Rattle.fv_canon.proofs.PartBytesLaws.{parts_fit}
+use Rattle.fv_canon.proofs.FileItemLaws.{parts_fit}
 use Rattle.fv_canon.proofs.LayoutWalkLaws.{some_items}
 use Rattle.fv_canon.proofs.layout_walk.placement_items.Goals as goal
 

@@ -1,6 +1,6 @@
 use Rattle.std.proofs.Common.{ap}
 use Rattle.fv_rows.specs.Words.{part_node}
-use Rattle.fv_canon.proofs.DigestLemmas.{file_next, volume_next}
+use Rattle.fv_canon.proofs.DigestStartLemmas.{file_next, volume_next}
 use Rattle.fv_canon.proofs.image_digests.ImageDigestsDigests.next_digest.Goals as goal
 
 pub starts_inside-self-requires : goal.starts_inside-self-requires
