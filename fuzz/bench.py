@@ -1,8 +1,8 @@
 #!/usr/bin/env python3
 # SPDX-License-Identifier: BSD-2-Clause-Patent
-"""Measures the built program over volumes, beside cat, cmp, sha256sum and, where they are installed, VolInfo and
-UEFIExtract, and prints a table. The table has the least processor time of the runs of each command, the ratio of this
-time to the time of cat, and the peak of memory. README.md describes more."""
+"""Measures the built program over volumes, beside cat, cmp and sha256sum, and prints a table. Volumes that are given are
+also measured beside VolInfo and UEFIExtract, if these are installed. The table has the least processor time of the runs
+of each command, the ratio of this time to the time of cat, and the peak of memory. README.md describes more."""
 
 from __future__ import annotations
 
@@ -53,8 +53,8 @@ def least(words: list[str], runs: int) -> Cost:
     return Cost(costs[-1].status, min(it.seconds for it in costs), max(it.peak for it in costs))
 
 
-def commands(program: str, path: str) -> Iterator[Command]:
-    """Returns the commands that are measured over a file."""
+def commands(program: str, path: str, has_others: bool) -> Iterator[Command]:
+    """Returns the commands that are measured over a file, with the other readers of volumes or without them."""
     for words in OURS:
         yield Command(f"fvtool {words}", [program, *words.split(), path])
     yield Command("fvtool compare", [program, "compare", path, path])
@@ -62,15 +62,15 @@ def commands(program: str, path: str) -> Iterator[Command]:
     yield Command("cmp", ["cmp", path, path + ".copy"])
     yield Command("sha256sum", ["sha256sum", path])
     for name, others in (("VolInfo", [path]), ("UEFIExtract", [path, "report"])):
-        if shutil.which(name):
+        if has_others and shutil.which(name):
             yield Command(name, [name, *others])
 
 
-def measure(program: str, path: str, runs: int) -> None:
+def measure(program: str, path: str, runs: int, has_others: bool) -> None:
     """Measures all commands over a file, and prints the rows of the table."""
     shutil.copyfile(path, path + ".copy")
     size = os.path.getsize(path)
-    costs = {it.name: least(it.words, runs) for it in commands(program, path)}
+    costs = {it.name: least(it.words, runs) for it in commands(program, path, has_others)}
     for name, cost in costs.items():
         ratio = cost.seconds / max(costs["cat"].seconds, 1e-6)
         figures = f"{cost.seconds * 1000:9.2f} {ratio:9.1f} {cost.peak / MIB:9.1f} {cost.peak / size:8.2f}"
@@ -96,7 +96,7 @@ def main() -> int:
         for name, path in inputs:
             print(f"{name}: {os.path.getsize(path)} bytes, least of {options.runs} runs")
             print(f"{'command':20} {'ms':>9} {'of cat':>9} {'peak MiB':>9} {'of input':>8} status")
-            measure(options.program, path, options.runs)
+            measure(options.program, path, options.runs, bool(options.volumes))
     return 0
 
 
