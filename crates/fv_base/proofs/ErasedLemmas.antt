@@ -14,7 +14,7 @@ use Rattle.std.specs.List.{list_all}
 use Rattle.fv_base.specs.Words.{AllAre, all_are}
 use Rattle.fv_base.proofs.CheckLemmas.{and_split, and_join}
 
-all_append : (e : ℕ) (x y : List ℕ) → AllAre e x → AllAre e y → AllAre e (x ++ y)
+pub all_append : (e : ℕ) (x y : List ℕ) → AllAre e x → AllAre e y → AllAre e (x ++ y)
 all_append e [] y h k = k
 all_append e (a ∷ x) y h k = (h.0, all_append e x y h.1 k)
 

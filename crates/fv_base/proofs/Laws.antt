@@ -5,7 +5,7 @@
 -- joined or filled are lists of bytes. A number and its bytes determine each other. k bytes spell a number below
 -- 256 ^ k. Equal joins are cut at equal lengths into equal parts.
 pub use Rattle.fv_base.proofs.FieldLemmas.{take-take_le, field-take, field-append_front, field_is, le_bytes-le}
-pub use Rattle.fv_base.proofs.FieldLemmas.{le-le_bytes, two_bytes, same_cut, none_at, bytes_cons, bytes_take}
+pub use Rattle.fv_base.proofs.FieldLemmas.{le-le_bytes, two_bytes, same_cut, none_at, bytes_behind, bytes_cons, bytes_take}
 pub use Rattle.fv_base.proofs.FieldLemmas.{bytes_drop, bytes_append, bytes_le_bytes}
 pub use Rattle.fv_base.proofs.NumberLaws.{le_below, field_below, bytes_front, bytes_back, bytes_replicate}
 -- Two places are equal if neither of them is less. The bytes up to the later place are the bytes up to the earlier
@@ -24,9 +24,9 @@ pub use Rattle.fv_base.proofs.FaultLemmas.{err_is, or_more, first_only, want_kno
 -- Tests of numbers and of single bits, when they hold and when they do not. A flag is not both true and false.
 pub use Rattle.fv_base.proofs.TestLemmas.{if_true, if_false, not_at_most, not_equal, one_bit, or_parts, or_both, up_is_not_down}
 -- Bytes that are all one byte: how they are joined, cut and filled, and the test for them.
-pub use Rattle.fv_base.proofs.ErasedLemmas.{all_front, all_behind, all-of_replicate, all_are-true, all-all_are}
+pub use Rattle.fv_base.proofs.ErasedLemmas.{all_append, all_front, all_behind, all-of_replicate, all_are-true, all-all_are}
 -- Sums of the words of joined bytes.
-pub use Rattle.fv_base.proofs.SumLemmas.{sum-words_of-append}
+pub use Rattle.fv_base.proofs.SumLemmas.{words_of-append, sum-words_of-append}
 -- A list sink that was empty before a walk holds the bytes of the walk.
 pub use Rattle.fv_base.proofs.SinkLemmas.{kept_whole}
 -- A property of every item of a list is a property of the item at an index, of the item where the list is cut, of the

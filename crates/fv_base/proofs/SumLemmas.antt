@@ -4,7 +4,7 @@ use Rattle.std.proofs.lemmas.List.Sums.{sum_by-append}
 use Rattle.fv_base.specs.Words.{words_of, le}
 
 -- the words of joined bytes are the words of the first part and of the second, if the first part has even length
-words_of-append : (a b : List ℕ) → length a % 2 ≡ 0 → words_of (a ++ b) ≡ words_of a ++ words_of b
+pub words_of-append : (a b : List ℕ) → length a % 2 ≡ 0 → words_of (a ++ b) ≡ words_of a ++ words_of b
 words_of-append [] b even = refl
 words_of-append (x ∷ []) b even = absurd (omega arith)
 words_of-append (x ∷ y ∷ a) b even = ap (λ (ws : List ℕ). le (x ∷ y ∷ []) ∷ ws) (words_of-append a b (omega arith))

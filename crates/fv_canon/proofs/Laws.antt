@@ -21,5 +21,6 @@ pub use Rattle.fv_canon.proofs.PartLengthLaws.{begin_all}
 -- a volume that does not fit is rejected
 pub use Rattle.fv_canon.proofs.RejectedInputLaws.{not_placed}
 -- the data of a file that was read, with a short header, are within the limit of a volume's length
+pub use Rattle.fv_canon.proofs.FileItemLaws.{data_short}
 -- if the starts are a layout of a volume, the digests with these starts cover all rows of the volume
 pub use Rattle.fv_canon.proofs.DigestStartLemmas.{layout_covers}

@@ -1,5 +1,5 @@
 -- The text and the status of each task over one input, and the faults that stop a task.
-use Rattle.std.specs.Prelude.{◌≡◌, ◌↔◌, ℕ, Bool, true, List, ◌++◌, drop, Option, ◌⊎◌, false, codes}
+use Rattle.std.specs.Prelude.{◌≡◌, ◌↔◌, ℕ, Bool, true, List, ◌++◌, drop, ◌⊎◌, false, codes}
 use Rattle.std.specs.List.{flat_map}
 use Rattle.fv_base.specs.Words.{OrMemory, out_of_memory}
 use Rattle.fv_base.specs.declared.flash.Polarity.{Polarity}

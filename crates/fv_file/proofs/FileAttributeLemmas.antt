@@ -14,7 +14,7 @@ pub bit_6 : (a : ℕ) → (bit_and a 64 == 64) ≡ (a / 64 % 2 == 1)
 bit_6 a = ap (λ n. n == 64) (and_pow a 6) ∙ one_bit (bit_at a 6) 64 (bit_at-lt a 6) (omega arith)
 
 -- attributes without bit 0x01 are an even number
-small_even : (n : ℕ) → is_large n ≡ false → n % 2 ≡ 0
+pub small_even : (n : ℕ) → is_large n ≡ false → n % 2 ≡ 0
 small_even n small = grind (arith, nat_tests)
 
 -- setting bit 0x01 adds 1

@@ -17,18 +17,19 @@ pub use Rattle.fv_file.proofs.TilingLemmas.{OneCell, NotEmpty, one_tiling, one_m
 -- There are at most as many cells as bytes.
 pub use Rattle.fv_file.proofs.TiledCellLemmas.{cells_few}
 -- The data of a file or pad are the bytes of the volume from the end of the file's header to the end of the file.
-pub use Rattle.fv_file.proofs.TiledCellLemmas.{IsPayloadIn, body_payloads}
+pub use Rattle.fv_file.proofs.TiledCellLemmas.{IsPayloadIn, tiled_payloads, body_payloads}
 -- Each valid file in a tiling of bytes meets the conditions of `FileRead`.
 pub use Rattle.fv_file.proofs.TiledCellLemmas.{IsRead, tiles_read}
 -- ---- a file
 
 -- The data of a file are after its header. A valid file in bytes meets the conditions of `FileRead`.
-pub use Rattle.fv_file.proofs.FileReadLemmas.{FileRead, cell_read}
+pub use Rattle.fv_file.proofs.FileReadLemmas.{payload_behind, FileRead, cell_read}
 -- A header has at least 24 bytes.
 pub use Rattle.fv_file.proofs.FileLemmas.{header_least}
 -- ---- attribute bits
 
 -- Attributes without bit 0x01 are even. With this bit, they are the attributes of a large header.
+pub use Rattle.fv_file.proofs.FileAttributeLemmas.{small_even, set_large}
 -- Attributes whose bit 0x01 is set for a large header, and clear for a short one, say the form of the header.
 pub use Rattle.fv_file.proofs.NewHeaderLemmas.{with_large_is}
 -- Setting or clearing bit 0x01 for the form of the header does not change the other bits.

@@ -43,7 +43,7 @@ cell_payload s p (Pad place head payload) x rest volume at e is o = filled_paylo
 cell_payload s p c x rest volume at e is o = tt
 
 -- if cells tile a volume from the offset `at` on, `IsPayloadIn` is true of each of them
-tiled_payloads : (s : FileSystem) (p : Polarity) (at : ℕ) (cs : List CellForm) (b volume : List ℕ) → drop at volume ≡ b
+pub tiled_payloads : (s : FileSystem) (p : Polarity) (at : ℕ) (cs : List CellForm) (b volume : List ℕ) → drop at volume ≡ b
     → Tiles s p at cs b → AllByRecursion (IsPayloadIn volume) cs
 tiled_payloads s p at [] b volume e tiles = tt
 tiled_payloads s p at (c ∷ cs) b volume e (x, rest, text, is, o, free, more) =

@@ -6,4 +6,4 @@ pub use Rattle.fv_flash.proofs.ScanLaws.{one_found, found_walk}
 -- Some bytes have one list of volumes. If there is a volume, it begins at a place.
 pub use Rattle.fv_flash.proofs.ScanLaws.{one_are, some_place}
 -- A volume at a place has one length, which is at least 64 and a multiple of 8, and it lies within the bytes.
-pub use Rattle.fv_flash.proofs.ScanLaws.{one_length, at_within}
+pub use Rattle.fv_flash.proofs.ScanLaws.{one_length, at_least, at_multiple, at_within}

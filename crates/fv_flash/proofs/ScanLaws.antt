@@ -22,7 +22,7 @@ some_length : (b : List ℕ) (h : HeadFields) (e : Extent) → BeginsVolume h e 
 some_length b h e f = grind (arith, common_steps)
 
 -- a volume has at least 64 bytes, and a multiple of 8, and lies within the bytes
-at_least : (b : List ℕ) (k n : ℕ) → VolumeAt b k n → 64 ≤ n
+pub at_least : (b : List ℕ) (k n : ℕ) → VolumeAt b k n → 64 ≤ n
 at_least b k n v = omega (arith, v.3, (some_length (drop k b) v.0 v.1 v.2).0)
 
 pub at_multiple : (b : List ℕ) (k n : ℕ) → VolumeAt b k n → n % 8 ≡ 0

@@ -54,7 +54,7 @@ pairs_bytes-append (p ∷ ps) qs =
 -- ---- a header in parts
 
 -- the HeaderLength that follows from the fields of a header is its length
-header_len_is : (h : HeadFields) (b : List ℕ) → IsHead h b → header_len_of h ≡ length b
+pub header_len_is : (h : HeadFields) (b : List ℕ) → IsHead h b → header_len_of h ≡ length b
 header_len_is h b head =
     let behind : length (drop 56 b) ≡ length b - 56 = length-drop 56 b in
     let count : 8 * length (pairs_of (drop 56 b)) ≡ length (drop 56 b) =

@@ -15,7 +15,7 @@ pub use Rattle.fv_head.proofs.ExtLemmas.{one_ext}
 pub use Rattle.fv_head.proofs.ExtImageLemmas.{ext_again, ext_len_most}
 -- The bytes that `canonical_head` spells satisfy `IsCanonicalHead`, and no other bytes do. The number of these bytes
 -- follows from the fields, and a header has at most 2112 bytes.
-pub use Rattle.fv_head.proofs.HeadImageLemmas.{canonical_is, canonical_only, length-canonical}
+pub use Rattle.fv_head.proofs.HeadImageLemmas.{canonical_is, canonical_only, length-canonical, header_len_is, header_len_most}
 -- The canonical head, with its extended header in a pad file after it, begins a volume with its fields.
 pub use Rattle.fv_head.proofs.HeadImageLemmas.{canonical_front}
 -- Bytes begin with a volume, or the checks of a volume header have a first fault.

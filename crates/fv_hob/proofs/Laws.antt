@@ -3,7 +3,7 @@
 
 -- The type of a block is at offset 0 of its bytes, and its length follows from its kind, and fits a field of 16 bits.
 -- Bytes begin with at most one block. If the checks hold, the block is there, and if a block is there, its checks hold.
-pub use Rattle.fv_hob.proofs.HobCheckLemmas.{code_is, len_is, SameBlock, one_block, checks_hold, stands}
+pub use Rattle.fv_hob.proofs.HobCheckLemmas.{code_is, len_is, len_small, SameBlock, one_block, checks_hold, stands}
 -- A block that is written is this block, and has the bytes from which it was read, unless it is unused.
 pub use Rattle.fv_hob.proofs.HobImageLemmas.{written_again, block_kept}
 -- A list that is written is this list, and has the bytes from which it was read, if no block is unused.

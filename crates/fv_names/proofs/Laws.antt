@@ -4,6 +4,6 @@
 -- The default file and the default entry, which `get_or` returns for a place past the end of a list.
 pub use Rattle.fv_names.proofs.IndexLaws.{no_named, no_entry}
 -- The number of an entry of an index is the number of a file, and each file has an entry.
-pub use Rattle.fv_names.proofs.NeighbourLaws.{entry_of}
+pub use Rattle.fv_names.proofs.NeighbourLaws.{number_within, entry_of}
 -- Files whose names differ have no twins, and none of them is replaced.
 pub use Rattle.fv_names.proofs.NeighbourLaws.{apart_twins, none_replaced}

@@ -6,7 +6,7 @@
 -- 4. If each file in turn is placed at its first start, the starts meet this condition.
 -- 5. If a volume top file cannot begin at its only possible start, there is no placement.
 use Rattle.std.proofs.lemmas.Grind.{common_steps}
-use Rattle.std.proofs.Common.{◌≡◌, ℕ, ◌+◌, ◌-◌, ◌%◌, ◌<◌, ◌≤◌, [], ◌∷◌, ◌++◌, inl, inr, refl, sym, ◌∙◌, ap, subst, arith, List, Bool, true, false}
+use Rattle.std.proofs.Common.{◌≡◌, ℕ, ◌+◌, ◌%◌, ◌<◌, ◌≤◌, [], ◌∷◌, ◌++◌, inl, inr, refl, sym, ◌∙◌, ap, subst, arith, List, Bool, true, false}
 use Rattle.std.proofs.Common.{append_assoc, append-nil, length, get_or, take, drop, zero, suc, add-one, IsTrue, MatchBool, take_all}
 use Rattle.fv_base.proofs.Laws.{up_to_8, drop_more, drop_all, take_more}
 use Rattle.fv_placement.specs.Words.{Lawful, StartsFollow, Placement, IsFirstPlacement, IsLeast, IsMisaligned, TopMisaligned}

@@ -9,8 +9,9 @@ pub use Rattle.fv_section.proofs.FrameLemmas.{frame_reads}
 pub use Rattle.fv_section.proofs.FrameLemmas.{size_least, length_begun, one_frame}
 -- If a list of bytes (numbers below 256) begins with a frame, the frame's body and the rest are lists of bytes, and the
 -- body fits the form of the header.
-pub use Rattle.fv_section.proofs.StreamLemmas.{begun_bytes, fits}
+pub use Rattle.fv_section.proofs.StreamLemmas.{begun_bytes, form_fits, fits_form, fits}
 -- A header that is written has its form, its type and its size.
+pub use Rattle.fv_section.proofs.SectionImageLemmas.{head_is}
 -- ---- a stream
 
 -- A stream is split in one way. Frames that split the bytes up to a multiple of 4, and one more frame there, are a
@@ -24,6 +25,7 @@ pub use Rattle.fv_section.proofs.FrameFaultLemmas.{frame_within, frame_fails, on
 -- Bytes are a stream of frames, or have a first fault.
 pub use Rattle.fv_section.proofs.DecidedLemmas.{stream_decided}
 -- The tail of a stream has at most 3 bytes.
+pub use Rattle.fv_section.proofs.StreamLemmas.{tail_small}
 -- Each frame of a stream begins at its offset.
 pub use Rattle.fv_section.proofs.FrameWalkLemmas.{split_stands}
 -- ---- streams that are written

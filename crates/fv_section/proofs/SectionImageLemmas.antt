@@ -4,7 +4,7 @@ use Rattle.fv_base.proofs.Laws.{common_steps, length-replicate, le-le_bytes}
 use Rattle.fv_section.specs.Words.{FrameForm, BeginsFrame, IsSectionHeader, frame_len, up_to_4, FitsForm, StreamsAreRead, section_head_of, stream_of}
 
 -- a header that is written has its form, its type and its size
-head_is : (kind : ℕ) (extended : Bool) (n : ℕ) → FitsForm extended n → IsSectionHeader extended kind n (section_head_of kind extended n)
+pub head_is : (kind : ℕ) (extended : Bool) (n : ℕ) → FitsForm extended n → IsSectionHeader extended kind n (section_head_of kind extended n)
 head_is kind extended n fits = grind (arith, common_steps, le-le_bytes)
 
 begins_with : (f : FrameForm) (rest : List ℕ) → FitsForm f.extended (length f.body)

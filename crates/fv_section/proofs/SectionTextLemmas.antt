@@ -1,5 +1,5 @@
 -- A test decides whether bytes are a text followed by its zero unit.
-use Rattle.std.proofs.Common.{◌≡◌, ◌≢◌, ◌≤◌, ℕ, ◌+◌, ◌-◌, ◌%◌, [], ◌∷◌, ◌++◌, ◌==◌, List, length, take, drop, refl, sym, ap, ◌∙◌, subst, arith, true}
+use Rattle.std.proofs.Common.{◌≡◌, ◌≢◌, ◌≤◌, ℕ, ◌-◌, ◌%◌, [], ◌∷◌, ◌++◌, ◌==◌, List, length, take, drop, refl, sym, ap, ◌∙◌, subst, arith, true}
 use Rattle.std.proofs.Common.{false, length-append, length-drop, not, eqb-true, eq-eqb, leb-true, le-leb, take-append-drop, take_at, drop_at}
 use Rattle.fv_base.proofs.Laws.{length-take-le, common_steps, AllByRecursion, words_of, le, and_join, and_split, not_equal}
 use Rattle.fv_section.specs.Words.{IsText, IsVersion}

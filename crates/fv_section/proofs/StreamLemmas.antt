@@ -141,7 +141,7 @@ begun_bytes f b rest bytes begun =
 -- ---- the forms of headers
 
 -- if a header is a list of bytes, the size that it states fits its form
-form_fits : (extended : Bool) (n : ℕ) (h : List ℕ) → length h ≡ section_header_len extended
+pub form_fits : (extended : Bool) (n : ℕ) (h : List ℕ) → length h ≡ section_header_len extended
     → StatesSize extended (section_header_len extended + n) h
     → IsBytes h → FitsForm extended n
 form_fits false n h long (is, other) bytes =
@@ -152,7 +152,7 @@ form_fits true n h long (full, is) bytes =
     omega (arith, is, le_below 4 (field 4 4 h) (bytes_take 4 (drop 4 h) (bytes_drop 4 h bytes)) four)
 
 -- if a section header for a body of n bytes is a list of bytes, the body fits its form
-fits_form : (extended : Bool) (kind n : ℕ) (h : List ℕ) → IsBytes h → IsSectionHeader extended kind n h → FitsForm extended n
+pub fits_form : (extended : Bool) (kind n : ℕ) (h : List ℕ) → IsBytes h → IsSectionHeader extended kind n h → FitsForm extended n
 fits_form extended kind n h bytes is = form_fits extended n h is.header_length is.states bytes
 
 -- if a list of bytes begins with a frame, the frame's body fits the form of its header

@@ -65,7 +65,7 @@ section_kind (suc n) e f at (inr (kind, opens, bad)) = volume_kind n (section_ki
 -- ---- the faults of bytes
 
 -- a fault whose condition holds in bytes is of a kind that is found in bytes
-stands_reading : (b : List ℕ) (e : Fault) → FaultHolds b e → is_reading e.kind ≡ true
+pub stands_reading : (b : List ℕ) (e : Fault) → FaultHolds b e → is_reading e.kind ≡ true
 stands_reading b e stands = volume_kind depth_limit (section_kind depth_limit) e b outermost stands
 
 -- a fault whose condition holds in bytes is not of any other kind

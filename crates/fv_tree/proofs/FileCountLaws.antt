@@ -20,7 +20,7 @@ pairs_length R [] [] p = refl
 pairs_length R (x ∷ xs) (y ∷ ys) p = omega (arith, pairs_length R xs ys p.1)
 pairs_length R _ _ p = absurd p
 
-volume_files_few : (n : ℕ) (b : List ℕ) (m : Meaning) → Denotes n b m → length (files_of m) ≤ length b
+pub volume_files_few : (n : ℕ) (b : List ℕ) (m : Meaning) → Denotes n b m → length (files_of m) ≤ length b
 volume_files_few n b m d =
     let cells = cells_few d.extent.file_system d.extent.polarity d.extent.first d.cells (drop d.extent.first b) d.tiles in
     let pairs = pairs_length (MeansFile (Stream n)) d.files (files_of m) d.meanings in

@@ -9,8 +9,9 @@ pub use Rattle.fv_tree.proofs.ListPairs.{pairs_push}
 -- a stream, a section, a body and a content have the length of the bytes that they were read from
 pub use Rattle.fv_tree.proofs.LengthLaws.{AsLong, stream_long, section_long, body_long, content_long}
 -- a volume has at most as many files as bytes, and fewer than 2 ^ 32 files
+pub use Rattle.fv_tree.proofs.FileCountLaws.{volume_files_few, few_of}
 -- the contents of a part are smaller than the part
-pub use Rattle.fv_tree.proofs.SizeLaws.{section_body_falls, file_falls}
+pub use Rattle.fv_tree.proofs.SizeLaws.{section_falls, section_body_falls, file_falls, content_falls}
 -- the volumes in a section are the volumes in its body, one level deeper
 pub use Rattle.fv_tree.proofs.DepthLaws.{in_section}
 -- the contents of a part nest at most as deep as the part, and one level less deep if it is a group or an opened volume
@@ -35,16 +36,17 @@ pub use Rattle.fv_tree.proofs.DecidedLaws.{volume_decided, input_decided}
 -- a first fault lies within the bytes or at their end, and at most 8 levels deep
 pub use Rattle.fv_tree.proofs.FaultPlaceLaws.{first_within}
 -- the faults of reading have one of the first 21 kinds
-pub use Rattle.fv_tree.proofs.FaultKindLaws.{is_reading, stands_other}
+pub use Rattle.fv_tree.proofs.FaultKindLaws.{is_reading, stands_reading, stands_other}
 -- ---- a whole input
 
 -- an input that is a volume begins with this volume. An input is a volume, and only this volume, if the input ends with
 -- the volume that it begins with. An input is not a volume if it does not begin with a volume, or if bytes follow the
 -- volume
+pub use Rattle.fv_tree.proofs.WholeInputLaws.{input_prefix, end_found, end_only, volume_refused, end_refused}
 -- an input for which memory ran out begins with the header of a volume
 pub use Rattle.fv_tree.proofs.WholeInputLaws.{ran_out}
 -- the faults of an input are not faults of a reader or a writer
-pub use Rattle.fv_tree.proofs.WholeInputLaws.{IsOfInput}
+pub use Rattle.fv_tree.proofs.WholeInputLaws.{IsOfInput, input_kind, stood_kind}
 -- ---- the files as they are stored
 
 -- bytes that are a volume begin with its files; bytes begin with the files of at most one volume, and contain the data

@@ -15,7 +15,7 @@ use Rattle.fv_base.specs.declared.guid.Guid.{Guid}
 use Rattle.fv_base.proofs.Laws.{bytes_drop, common_steps, IsBytes, depth_limit, volume_limit}
 use Rattle.fv_section.specs.Words.{FrameForm, after_first, frame_in}
 use Rattle.fv_section.proofs.Laws.{begun_bytes}
-use Rattle.fv_tree.specs.Words.{Pairwise, IsStoredFrame, MeansSection, Stream, holds_sections, Meaning, SectionMeaning, Section, Leaf, Group, Nested}
+use Rattle.fv_tree.specs.Words.{Pairwise, IsStoredFrame, MeansSection, Stream, holds_sections, Meaning, SectionMeaning, Section, Leaf, Nested}
 use Rattle.fv_tree.specs.Words.{shape_of, Step, each_by, body_by, unopened, section_by, frames_of, tail_of, AreKept, IsKept, IsKeptFile}
 use Rattle.fv_tree.specs.declared.shape.Shape.{Shape}
 use Rattle.fv_tree.specs.declared.shape.Shape.TheVariants as shapes

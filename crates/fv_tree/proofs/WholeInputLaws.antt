@@ -13,7 +13,7 @@ use Rattle.fv_base.specs.declared.fault.FaultKind.TheVariants as kinds
 -- ---- an input and the volume that it begins with
 
 -- an input that is a volume begins with this volume
-input_prefix : (b : List ℕ) (m : Meaning) → Denotes depth_limit b m → Denotes depth_limit (take (length b) b) m
+pub input_prefix : (b : List ℕ) (m : Meaning) → Denotes depth_limit b m → Denotes depth_limit (take (length b) b) m
 input_prefix b m d = rw (take_all (length b) b (omega arith)) d
 
 -- an input that does not begin with a volume is not a volume
@@ -70,7 +70,7 @@ IsOfInput kind = (kind ≢ kinds.ReadFault) × (kind ≢ kinds.WriteFault)
 
 -- OutOfMemory is neither ReadFault nor WriteFault. So to prove this of the kind of f, f may be assumed not to be out of
 -- memory
-input_kind : (f : Fault) → (f ≢ out_of_memory → IsOfInput f.kind) → IsOfInput f.kind
+pub input_kind : (f : Fault) → (f ≢ out_of_memory → IsOfInput f.kind) → IsOfInput f.kind
 input_kind f known = grind (arith, common_steps, want_known)
 
 -- so the kind of a fault whose condition holds in the bytes is neither ReadFault nor WriteFault

@@ -1,5 +1,5 @@
 use Rattle.std.proofs.lemmas.Grind.{common_steps}
-use Rattle.std.proofs.Common.{◌++◌, ◌∷◌, ◌-◌, [], length-append, refl, arith}
+use Rattle.std.proofs.Common.{◌++◌, ◌∷◌, [], length-append, refl, arith}
 use Rattle.fv_base.proofs.Laws.{err_is}
 use Rattle.fv_section.proofs.FrameLemmas.{size_least}
 use Rattle.fv_section.proofs.FrameWalkLemmas.{first_here, stands_within, step, whole_of}

@@ -1,5 +1,5 @@
 use Rattle.std.proofs.lemmas.Grind.{common_steps}
-use Rattle.std.proofs.Common.{◌-◌, arith}
+use Rattle.std.proofs.Common.{arith}
 use Rattle.fv_names.proofs.NeighbourLaws.{file_within}
 use Rattle.fv_names.proofs.name_index.NameIndex.has_twin.Goals as goal
 

@@ -1,5 +1,5 @@
 use Rattle.std.proofs.lemmas.Grind.{common_steps}
-use Rattle.std.proofs.Common.{◌≡◌, ◌≤◌, ◌+◌, ◌++◌, ◌∷◌, ◌∙◌, [], List, ℕ, length, length-append, ap, arith}
+use Rattle.std.proofs.Common.{◌≡◌, ◌≤◌, ◌++◌, ◌∷◌, ◌∙◌, [], List, ℕ, length, length-append, ap, arith}
 use Rattle.fv_base.specs.Words.{read_limit, volume_limit}
 use Rattle.fv_text.specs.Words.{squeezed}
 use Rattle.fv_text.proofs.WhiteSpaceLemmas.{squeezed_short}
