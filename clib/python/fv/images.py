@@ -38,7 +38,7 @@ class Part:
     are the image or the contents of an opened section. The bytes of a file are its data, and the bytes of a section its
     body."""
 
-    data: bytes
+    data: bytes = field(repr=False)
     offset: int
     length: int
 
@@ -49,18 +49,33 @@ class Part:
 
 
 @dataclass
+class Unread(Part):
+    """Bytes whose contents are not read: what they are, in words (such as `pad`, `deleted file`, `variable store`), and
+    the reason why they are not read. `guid` is the GUID of a file, or of the file system of a volume. A gap is a stretch
+    of bytes that is in no volume and in no section."""
+
+    what: str
+    reason: str
+    guid: uuid.UUID | None = None
+    is_gap: bool = False
+
+
+@dataclass
 class Volume(Part):
     """A volume: FvName (None if it has no name), the number of its file system, and its files. A rejected volume has
     its fault, and no files.
 
     libfv rejects a volume that has files marked as fixed. This module reads the volume without their marks, and sets
-    `is_marked`. All bytes and attributes here are as stored, so they have the marks."""
+    `is_marked`. All bytes and attributes here are as stored, so they have the marks. `unread` are the bytes of the
+    volume that are not erased and whose contents are not read, in order: pads, superseded, deleted and unfinished
+    files, and bytes that look like the header of a further volume."""
 
     guid: uuid.UUID | None = None
     system: int = 0
     files: list[File] = field(default_factory=list)
     fault: Fault | None = None
     is_marked: bool = False
+    unread: list[Unread] = field(default_factory=list)
 
     @property
     def plain(self) -> bytes:
@@ -142,12 +157,14 @@ class Section(Part):
 @dataclass
 class Content:
     """The contents of an image or of an opened section: the sections with which the data begin, the volumes after them,
-    and the offset at which the sections end (0 if there are none)."""
+    and the offset at which the sections end (0 if there are none). `unread` are the gaps that are not erased, and the
+    bytes in gaps that look like the header of a volume, in order."""
 
-    data: bytes
+    data: bytes = field(repr=False)
     sections: list[Section]
     volumes: list[Volume]
     end: int
+    unread: list[Unread]
 
     @property
     def others(self) -> list[Part]:
@@ -163,9 +180,11 @@ class Content:
 
 @dataclass
 class Opened(Content):
-    """The contents of a section, and how it was opened."""
+    """The contents of a section, and how it was opened. `doubts` are the reasons, in words, why the contents may be
+    wrong or incomplete: a checksum that is wrong, or bytes after the end of the packed data."""
 
     way: Way
+    doubts: list[str]
 
 
 def leaves(sections: Iterable[Section]) -> Iterator[Section]:
@@ -237,7 +256,7 @@ class Reader:
 
     def image(self) -> Content:
         """Returns the volumes of the image, with all parts inside them. No section is opened."""
-        return Content(self._data, [], self._volumes(self._data, 0), 0)
+        return Content(self._data, [], self._volumes(self._data, 0), 0, [])
 
     def open_volumes(self, volumes: Iterable[Volume], depth: int) -> None:
         """Opens all sections in volumes, at every level. `depth` is the number of opened sections around them."""
@@ -293,7 +312,7 @@ class Reader:
         way, data = open_section(section.kind, section.header_length, section.body, self._budget)
         with self._budget.attempt():
             sections, end = self._stream(data, 0, len(data), 0)
-            return Opened(data, sections, self._volumes(data, end), end, way)
+            return Opened(data, sections, self._volumes(data, end), end, [], way, [])
 
     def _stream(self, data: bytes, start: int, end: int, depth: int) -> tuple[list[Section], int]:
         """Returns the sections in some bytes, and the offset at which the last one ends, with its filler."""
