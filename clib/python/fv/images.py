@@ -12,24 +12,38 @@ which is not proved. An image is not trusted, so `fv.limits` limits how much of 
 
 from __future__ import annotations
 
-import contextlib
+import functools
 import uuid
 from collections.abc import Iterable, Iterator, Sequence
 from dataclasses import dataclass, field, replace
+from typing import TypeVar
 
 from . import names
-from ._calls import header_read, image_scan, volume_tree, volume_unfix
+from ._calls import header_read, volume_cells, volume_tree, volume_unfix
 from ._errors import Fault, FaultError
-from ._native import FaultCode, NodeKind
+from ._library import Buffer
+from ._native import CellKind, FaultCode, NodeKind
 from ._types import Node
 from .limits import Budget, Full, Limits
-from .opened import PACKED, Closed, Way, frames, open_section
+from .opened import OUT_OF_MEMORY, PACKED, Closed, Way, frames, is_erased, open_section
 
-SIGNATURE, SIGNATURE_AT = b"_FVH", 40  # the signature in the header of a volume
-LONGEST_HEADER = 1 << 16  # bytes of the header of a volume
+# In the header of a volume: GUID of the file system, FvLength (its upper half is 0), the signature, HeaderLength.
+SYSTEM_AT, LENGTH_AT, SIGNATURE_AT, HEADER_LENGTH_AT, REVISION_AT = 16, 32, 40, 48, 55
+SIGNATURE, BEFORE_SIGNATURE = b"\0\0\0\0_FVH", 4  # with the upper half of FvLength
+SHORTEST_HEADER, REVISION = 56, 2  # bytes of the header of a volume, and its revision
+HEAD = 64  # bytes that show what lies outside of volumes
 FIXED, ATTRIBUTES_AT = 0x04, 19  # the attribute of a file that may not be moved; where a file header has the attributes
 SYSTEMS = {2: "FFS2", 3: "FFS3"}
-LONGEST_TEXT = 4096  # characters of a text that are read
+LONGEST_TEXT = 200  # characters of a text that are read
+REMAINS = {
+    CellKind.FILE: ("superseded file", "another file took its place"),
+    CellKind.DELETED: ("deleted file", "it was deleted"),
+    CellKind.UNFINISHED: ("unfinished file", "it was never finished"),
+    CellKind.PAD: ("pad", "a pad holds bytes"),
+}
+
+
+Found = TypeVar("Found", bound="Content")
 
 
 @dataclass
@@ -113,14 +127,15 @@ class File(Part):
         """Returns the name of the type."""
         return names.type_name(self.kind, names.FILES)
 
-    @property
+    @functools.cached_property
     def name(self) -> str:
-        """Returns the readable name: the first text of a user interface section that is not empty."""
+        """Returns the readable name: the first text of a user interface section that is not empty. It is looked for
+        once, so the sections must have been opened before."""
         return first_text(self.sections, names.UI)
 
-    @property
+    @functools.cached_property
     def version(self) -> str:
-        """Returns the first text of a version section that is not empty."""
+        """Returns the first text of a version section that is not empty. It is looked for once."""
         return first_text(self.sections, names.VERSION)
 
 
@@ -148,10 +163,12 @@ class Section(Part):
 
     @property
     def text(self) -> str:
-        """Returns the text of a user interface section or a version section, at most LONGEST_TEXT characters of it."""
+        """Returns the text of a user interface section or a version section. Two dots take the place of what follows
+        LONGEST_TEXT characters."""
         start = 2 if self.kind == names.VERSION else 0  # after the build number
-        body = self.data[self.offset + start : self.offset + min(self.length, start + 2 * LONGEST_TEXT)]
-        return body[: len(body) & ~1].decode("utf-16-le", "surrogatepass").split("\0")[0]
+        body = self.data[self.offset + start : self.offset + min(self.length, start + 2 * LONGEST_TEXT + 2)]
+        found = body[: len(body) & ~1].decode("utf-16-le", "surrogatepass").partition("\0")[0]
+        return found if len(found) <= LONGEST_TEXT else f"{found[:LONGEST_TEXT]}.."
 
 
 @dataclass
@@ -238,10 +255,11 @@ def _files_under(sections: Iterable[Section]) -> Iterator[tuple[Volume, File]]:
             yield from files_in(section.opened)
 
 
-def read(data: bytes, limits: Limits = Limits()) -> Content:
+def read(data: Buffer, limits: Limits = Limits()) -> Content:
     """Returns the contents of an image, with all sections opened that can be opened. Raises Full if the image exceeds a
-    limit. A section is not opened if only its contents exceed the limit."""
-    reader = Reader(data, limits)
+    limit. A section is not opened if only its contents exceed the limit. An image that is not a bytes object is
+    copied."""
+    reader = Reader(data if isinstance(data, bytes) else bytes(data), limits)
     image = reader.image()
     reader.open_volumes(image.volumes, 0)
     return image
@@ -256,14 +274,17 @@ class Reader:
 
     def image(self) -> Content:
         """Returns the volumes of the image, with all parts inside them. No section is opened."""
-        return Content(self._data, [], self._volumes(self._data, 0), 0, [])
+        return self._with_unread(Content(self._data, [], self._volumes(self._data, 0), 0, []))
 
     def open_volumes(self, volumes: Iterable[Volume], depth: int) -> None:
         """Opens all sections in volumes, at every level. `depth` is the number of opened sections around them."""
         for volume in volumes:
+            cores = [it for it in volume.files if it.kind == names.SECURITY_CORE and not it.sections]
+            for file in cores:
+                file.sections = self._core_sections(file)
+            if any(True for file in cores for _ in volumes_in(file.sections)):
+                self._add_unread(volume)  # a volume in a core is read now
             for file in volume.files:
-                if file.kind == names.SECURITY_CORE and not file.sections:
-                    file.sections = self._core_sections(file)
                 self._open_under(file.sections, depth)
 
     def open_all(self, sections: Iterable[Section], depth: int) -> None:
@@ -284,7 +305,7 @@ class Reader:
         except Full as what:
             section.closed = f"more than {what}"
         except MemoryError:
-            section.closed = "memory ran out"
+            section.closed = OUT_OF_MEMORY
         else:
             self.open_all(section.opened.sections, depth + 1)
 
@@ -309,10 +330,10 @@ class Reader:
         """Returns the contents of a section. Raises Closed or Full if it is not opened."""
         if depth >= self._budget.limits.depth:
             raise Closed("too deep")
-        way, data = open_section(section.kind, section.header_length, section.body, self._budget)
+        way, data, doubts = open_section(section.kind, section.header_length, section.body, self._budget)
         with self._budget.attempt():
             sections, end = self._stream(data, 0, len(data), 0)
-            return Opened(data, sections, self._volumes(data, end), end, [], way, [])
+            return self._with_unread(Opened(data, sections, self._volumes(data, end), end, [], way, doubts))
 
     def _stream(self, data: bytes, start: int, end: int, depth: int) -> tuple[list[Section], int]:
         """Returns the sections in some bytes, and the offset at which the last one ends, with its filler."""
@@ -322,31 +343,72 @@ class Reader:
             section = Section(data, frame.body, frame.end - frame.body, frame.kind, frame.body - frame.start)
             if frame.kind == names.VOLUME:
                 section.volume = self._volume(data, frame.body, section.length, False)
-            elif frame.kind == names.GROUP and depth < self._budget.limits.depth:
-                section.sections, _ = self._stream(data, frame.body, frame.end, depth + 1)
+            elif frame.kind == names.GROUP and depth == self._budget.limits.depth:
+                section.closed = "too deep"
+            elif frame.kind == names.GROUP:
+                section.sections, last = self._stream(data, frame.body, frame.end, depth + 1)
+                section.closed = "" if is_erased(data, last, frame.end) else f"{frame.end - last} bytes are no sections"
             sections.append(section)
             start = min(frame.end + (frame.start - frame.end) % 4, end)
         return sections, start
 
     def _volumes(self, data: bytes, start: int) -> list[Volume]:
-        """Returns the volumes in some data, from an offset on. They may have fixed files."""
-        headers = image_scan(memoryview(data)[start:])
-        # One by one, because there may be very many: at the limit of parts, this ends.
-        places = ((start + it.offset, it.length) for it in headers) if headers else self._odd_places(data, start)
-        return [self._volume(data, at, length, True) for at, length in places]
-
-    def _odd_places(self, data: bytes, start: int) -> Iterator[tuple[int, int]]:
-        """Yields the offsets and lengths of the volumes in data that have no volume at a multiple of 8, such as a
-        volume after a capsule header of 28 bytes."""
+        """Returns the volumes in some data, from an offset on. A volume may begin at any byte that is in no volume before
+        it, and may have fixed files."""
+        found: list[Volume] = []
         at = start
-        while (found := data.find(SIGNATURE, at + SIGNATURE_AT)) >= 0 and self._budget.may_try():
-            begin = found - SIGNATURE_AT
-            self._budget.waste(LONGEST_HEADER)
+        while (begin := self._next_header(data, at, len(data))) is not None:
             at = begin + 1
-            with contextlib.suppress(FaultError):
-                length = header_read(memoryview(data)[begin:]).length
+            if not self._header_fault(data, begin, len(data)):
+                length = int.from_bytes(data[begin + LENGTH_AT : begin + SIGNATURE_AT], "little")
+                found.append(self._volume(data, begin, length, True))
                 at = begin + length
-                yield begin, length
+        return found
+
+    def _next_header(self, data: bytes, start: int, end: int) -> int | None:
+        """Returns the first place at which the header of a volume may begin: the signature, and lengths that may be
+        right. The volume may be longer than the data."""
+        at = start + SIGNATURE_AT - BEFORE_SIGNATURE
+        while (found := data.find(SIGNATURE, at, end)) >= 0:
+            self._budget.look()
+            begin, at = found + BEFORE_SIGNATURE - SIGNATURE_AT, found + 1
+            length = int.from_bytes(data[begin + LENGTH_AT : begin + SIGNATURE_AT], "little")
+            header = int.from_bytes(data[begin + HEADER_LENGTH_AT : begin + HEADER_LENGTH_AT + 2], "little")
+            if SHORTEST_HEADER <= header <= length and begin + SHORTEST_HEADER <= end:
+                return begin
+        return None
+
+    def _header_fault(self, data: bytes, begin: int, end: int) -> Fault | None:
+        """Returns the fault of a header, or None if it has none. Its block map may be long."""
+        self._budget.read_again(int.from_bytes(data[begin + HEADER_LENGTH_AT : begin + HEADER_LENGTH_AT + 2], "little"))
+        try:
+            header_read(memoryview(data)[begin:end])
+        except FaultError as error:
+            return replace(error.fault, offset=begin + error.fault.offset)
+        return None
+
+    def _with_unread(self, content: Found) -> Found:
+        """Adds the bytes that are in no volume and in no section, with the headers of volumes in them."""
+        for gap in content.others:
+            end = gap.offset + gap.length
+            if not is_erased(gap.data, gap.offset, end):
+                content.unread.append(_gap(gap))
+            content.unread += self._headers(gap.data, gap.offset, end, "the volume is not read")
+        return content
+
+    def _headers(self, data: bytes, start: int, end: int, otherwise: str) -> Iterator[Unread]:
+        """Yields the places at which the header of a volume may begin, with its fault, or with another reason why the
+        volume is not read."""
+        at = start
+        while (begin := self._next_header(data, at, end)) is not None:
+            at = begin + 1
+            self._budget.count(1)
+            fault = self._header_fault(data, begin, end)
+            reason = f"{fault}: {fault.text}" if fault else otherwise
+            length = int.from_bytes(data[begin + LENGTH_AT : begin + SIGNATURE_AT], "little")
+            guid = uuid.UUID(bytes_le=data[begin + SYSTEM_AT : begin + LENGTH_AT])
+            what = _what_volume(guid, data[begin + REVISION_AT])
+            yield Unread(data, begin, min(length, end - begin), what, reason, guid)
 
     def _volume(self, data: bytes, offset: int, length: int, may_be_fixed: bool) -> Volume:
         """Returns the volume at these bytes, with all parts inside it. Unless its files may be fixed, a volume with
@@ -359,7 +421,10 @@ class Reader:
             # The codes before this one are the faults of headers.
             name = header_read(body).name if error.fault.code >= FaultCode.FILE_STATE else None
             fault = replace(error.fault, offset=offset + error.fault.offset)
-            return Volume(data, offset, length, name, fault=fault)
+            rejected = Volume(data, offset, length, name, fault=fault)
+            inside = "it is in a volume that is rejected"
+            rejected.unread = list(self._headers(data, offset + SHORTEST_HEADER, offset + length, inside))
+            return rejected
         self._budget.count(len(rows))
         parts: list[Part] = []
         for row in rows:
@@ -369,7 +434,53 @@ class Reader:
         volume = parts[0]
         assert isinstance(volume, Volume)
         volume.is_marked = is_marked
+        self._add_unread(volume)
         return volume
+
+    def _add_unread(self, volume: Volume) -> None:
+        """Adds the bytes of a volume whose contents are not read, and does the same for the volumes inside it."""
+        remains = list(_remains(volume))
+        self._budget.count(len(remains))
+        inner = [it for file in volume.files for it in volumes_in(file.sections)]
+        for it in inner:
+            self._add_unread(it)
+        starts = [volume.offset + SHORTEST_HEADER, *(it.offset + it.length for it in inner)]
+        ends = [*(it.offset for it in inner), volume.offset + volume.length]
+        for start, end in zip(starts, ends):
+            remains += self._headers(volume.data, start, end, "it is in a part that is not read as volumes")
+        volume.unread = sorted(remains, key=lambda it: it.offset)
+
+
+def _gap(part: Part) -> Unread:
+    """Returns bytes that are in no volume and in no section, with what they are if that is known."""
+    what = names.what_begins(part.data[part.offset : part.offset + HEAD])
+    return Unread(part.data, part.offset, part.length, what, "it is in no volume", is_gap=True)
+
+
+def _what_volume(system: uuid.UUID, revision: int) -> str:
+    """Returns what a volume is that is not read, by the GUID of its file system and the revision of its header."""
+    if system in names.FILE_SYSTEMS:
+        return names.FILE_SYSTEMS[system]
+    return "volume" if revision == REVISION else f"volume of revision {revision}"
+
+
+def _remains(volume: Volume) -> Iterator[Unread]:
+    """Yields the pads of a volume that hold bytes, and its files that are not valid."""
+    valid = {it.offset - it.header_length - volume.offset for it in volume.files}
+    for cell in volume_cells(volume.plain):
+        if cell.kind not in REMAINS or cell.offset in valid:
+            continue
+        what, reason = REMAINS[cell.kind]
+        start = volume.offset + cell.offset
+        end = start + cell.length
+        guid: uuid.UUID | None = uuid.UUID(bytes_le=volume.data[start : start + 16])
+        if cell.kind == CellKind.PAD:
+            start, guid = start + (cell.header_length or 0), None
+            if is_erased(volume.data, start, end):
+                continue
+            known = names.what_begins(volume.data[start : start + HEAD])
+            reason += f": {known}" if known else ""
+        yield Unread(volume.data, start, end - start, what, reason, guid)
 
 
 def _tree_of(volume: memoryview) -> tuple[Sequence[Node], bool]:
