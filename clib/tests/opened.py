@@ -90,7 +90,9 @@ def test_fixed() -> None:
     (volume,) = images.read(made.IMAGES["damaged.fd"]()).volumes[:1]
     assert str(volume.fault) == "fault 11 at 4168" and volume.files == [] and volume.guid is None
     (volume,) = images.read(made.IMAGES["fixed-inside.fv"]()).volumes
-    assert str(volume.fault) == "fault 15 at 191" and volume.files == []
+    inner = volume.files[0].sections[0].volume
+    assert volume.fault is None and volume.is_marked and not volume.fixed and inner and inner.is_marked
+    assert [len(it.fixed) for it in (volume, inner)] == [0, 2] and fv.volume_tree(volume.plain) and inner.plain in volume.plain
 
 
 def test_places() -> None:

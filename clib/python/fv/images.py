@@ -12,6 +12,7 @@ which is not proved. An image is not trusted, so `fv.limits` limits how much of 
 
 from __future__ import annotations
 
+import contextlib
 import functools
 import uuid
 from collections.abc import Iterable, Iterator, Sequence
@@ -79,8 +80,8 @@ class Volume(Part):
     """A volume: FvName (None if it has no name), the number of its file system, and its files. A rejected volume has
     its fault, and no files.
 
-    libfv rejects a volume that has files marked as fixed. This module reads the volume without their marks, and sets
-    `is_marked`. All bytes and attributes here are as stored, so they have the marks. `unread` are the bytes of the
+    libfv rejects a volume that has files marked as fixed, also inside it. This module reads the volume without their
+    marks, and sets `is_marked`. All bytes and attributes here are as stored, so they have the marks. `unread` are the bytes of the
     volume that are not erased and whose contents are not read, in order: pads, superseded, deleted and unfinished
     files, and bytes that look like the header of a further volume."""
 
@@ -94,7 +95,7 @@ class Volume(Part):
     @property
     def plain(self) -> bytes:
         """Returns the bytes of the volume without the marks of fixed files. libfv reads these bytes."""
-        return volume_unfix(self.body) if self.is_marked else self.body
+        return _unmarked(self.body) if self.is_marked else self.body
 
     @property
     def fixed(self) -> list[File]:
@@ -239,6 +240,15 @@ def files_in(content: Content) -> Iterator[tuple[Volume, File]]:
         yield from _files_of(volume)
 
 
+def stored_files(volume: Volume) -> Iterator[File]:
+    """Yields the files of a volume and of its nested volumes in the order of their rows in the tree. Files in opened
+    sections are not among them."""
+    for file in volume.files:
+        yield file
+        for inner in volumes_in(file.sections):
+            yield from stored_files(inner)
+
+
 def _files_of(volume: Volume) -> Iterator[tuple[Volume, File]]:
     """Yields the files of a volume, each before the files inside it."""
     for file in volume.files:
@@ -342,7 +352,7 @@ class Reader:
             self._budget.count(1)
             section = Section(data, frame.body, frame.end - frame.body, frame.kind, frame.body - frame.start)
             if frame.kind == names.VOLUME:
-                section.volume = self._volume(data, frame.body, section.length, False)
+                section.volume = self._volume(data, frame.body, section.length)
             elif frame.kind == names.GROUP and depth == self._budget.limits.depth:
                 section.closed = "too deep"
             elif frame.kind == names.GROUP:
@@ -361,7 +371,7 @@ class Reader:
             at = begin + 1
             if not self._header_fault(data, begin, len(data)):
                 length = int.from_bytes(data[begin + LENGTH_AT : begin + SIGNATURE_AT], "little")
-                found.append(self._volume(data, begin, length, True))
+                found.append(self._volume(data, begin, length))
                 at = begin + length
         return found
 
@@ -410,12 +420,11 @@ class Reader:
             what = _what_volume(guid, data[begin + REVISION_AT])
             yield Unread(data, begin, min(length, end - begin), what, reason, guid)
 
-    def _volume(self, data: bytes, offset: int, length: int, may_be_fixed: bool) -> Volume:
-        """Returns the volume at these bytes, with all parts inside it. Unless its files may be fixed, a volume with
-        fixed files is rejected."""
+    def _volume(self, data: bytes, offset: int, length: int) -> Volume:
+        """Returns the volume at these bytes, with all parts inside it."""
         body = memoryview(data)[offset : offset + length]
         try:
-            rows, is_marked = _tree_of(body) if may_be_fixed else (volume_tree(body), False)
+            rows = _tree_of(body)
         except FaultError as error:
             self._budget.count(1)
             # The codes before this one are the faults of headers.
@@ -433,7 +442,7 @@ class Reader:
                 _hold(parts[row.parent], parts[-1])
         volume = parts[0]
         assert isinstance(volume, Volume)
-        volume.is_marked = is_marked
+        _find_marks(volume)
         self._add_unread(volume)
         return volume
 
@@ -483,15 +492,45 @@ def _remains(volume: Volume) -> Iterator[Unread]:
         yield Unread(volume.data, start, end - start, what, reason, guid)
 
 
-def _tree_of(volume: memoryview) -> tuple[Sequence[Node], bool]:
-    """Returns the tree of a volume, and whether the volume was read without the marks of its fixed files. Files of
-    nested volumes keep their marks, so a volume with a fixed file in a nested volume is rejected."""
+def _tree_of(volume: memoryview) -> Sequence[Node]:
+    """Returns the tree of a volume without the marks of fixed files."""
     try:
-        return volume_tree(volume), False
+        return volume_tree(volume)
     except FaultError as error:
-        if error.fault.code != FaultCode.FIXED or error.fault.depth:
+        if error.fault.code != FaultCode.FIXED:
             raise
-    return volume_tree(volume_unfix(volume)), True
+    return volume_tree(_unmarked(volume))
+
+
+def _unmarked(volume: bytes | memoryview) -> bytes:
+    """Returns a volume without the marks of fixed files, also of those in its nested volumes. libfv removes the marks of
+    one volume. The bytes of a file header keep their sum, so the checksums of the files around it stay right."""
+    whole = bytearray(volume_unfix(volume))
+    places = [(0, len(whole))]
+    for start, end in places:
+        for at, after in _nested_places(bytes(whole[start:end])):
+            with contextlib.suppress(FaultError):  # it is rejected with the volume around it
+                whole[start + at : start + after] = volume_unfix(whole[start + at : start + after])
+                places.append((start + at, start + after))
+    return bytes(whole)
+
+
+def _nested_places(volume: bytes) -> Iterator[tuple[int, int]]:
+    """Yields where the volumes in the sections of a volume begin and end. No file of the volume is marked fixed."""
+    for cell in volume_cells(volume):
+        if cell.kind == CellKind.FILE and cell.efi_type != names.RAW_FILE:
+            streams = [(cell.offset + (cell.header_length or 0), cell.offset + cell.length)]
+            for start, end in streams:
+                found = list(frames(volume, start, end))
+                streams += [(it.body, it.end) for it in found if it.kind == names.GROUP]
+                yield from ((it.body, it.end) for it in found if it.kind == names.VOLUME)
+
+
+def _find_marks(volume: Volume) -> bool:
+    """Notes for a volume, and for each volume inside it, whether a file in it is marked fixed."""
+    inner = [_find_marks(it) for file in volume.files for it in volumes_in(file.sections)]
+    volume.is_marked = bool(volume.fixed) or any(inner)
+    return volume.is_marked
 
 
 def _part(row: Node, data: bytes, start: int) -> Part:

@@ -27,7 +27,7 @@ from ._calls import volume_tree, volume_tree_digests
 from ._errors import FaultError
 from ._native import NodeKind
 from ._types import Node
-from .images import LONGEST_TEXT, Content, File, Opened, Section, Volume, files_in, leaves
+from .images import LONGEST_TEXT, Content, File, Opened, Section, Volume, files_in, leaves, stored_files
 from .limits import Full
 from .names import GROUP, SUBTYPE, UI, VERSION
 from .opened import OF_MACHINE
@@ -75,9 +75,9 @@ def _list(volume: Volume) -> Iterator[str]:
     counts = Counter(node.parent for node in nodes if node.kind == NodeKind.FILE)
     if volume.fixed:
         yield f"{len(volume.fixed)} of {len(volume.files)} files fixed"
-    files = iter(volume.files)
+    files = stored_files(volume)
     for row, (node, digest) in enumerate(zip(nodes, digests)):
-        file = next(files) if node.depth == 1 else None
+        file = next(files) if node.kind == NodeKind.FILE else None
         ending = f" sha256 {digest.hex()}" if digest else ""
         yield f"{'  ' * node.depth}{_line(node, counts[row], data)}{ending}{_fixed(file)}"
 
