@@ -142,7 +142,7 @@ def test_headers() -> None:
         assert gap == ("", "it is in no volume")
         assert header[0] == what and header[1].startswith(reason), header
     inner = made.volume([made.A], 0x2000)
-    unread = "it is in a part that is not read as volumes"
+    unread = "it is in bytes that are not read as volumes"
     for holder in (
         made.file(made.guid(6), inner),
         made.file(made.guid(6), made.section(made.RAW, inner), made.FREEFORM),
@@ -154,9 +154,12 @@ def test_headers() -> None:
     wrong = made.file(made.guid(4), made.noise("d", 777))
     found = unread_in(made.volume([changed(wrong, 16, wrong[16] ^ 1), made.NESTED]))
     assert found == [("volume", "it is in a volume that is rejected")]
-    packed = made.compressed(made.stream(made.ui("Own"), made.section(made.RAW, inner)))
-    (file,) = images.read(made.volume([made.file(made.guid(1), packed, made.FREEFORM)])).volumes[0].files
-    assert file.sections[0].opened and [it.what for it in file.sections[0].opened.unread] == []
+    for content, count in ((made.section(made.RAW, inner), 1), (made.section(made.VOLUME, inner), 0)):
+        packed = made.guided(made.CRC32, made.stream(made.ui("Own"), content))
+        (volume,) = images.read(made.volume([made.file(made.guid(1), packed, made.FREEFORM)])).volumes
+        opened = volume.files[0].sections[0].opened
+        assert opened and [(it.what, it.reason) for it in opened.unread] == [("volume", unread)] * count
+        assert volume.unread == []
 
 
 def test_remains() -> None:

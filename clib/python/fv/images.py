@@ -228,6 +228,13 @@ def volumes_in(sections: Iterable[Section]) -> Iterator[Volume]:
     return (it.volume for it in leaves(sections) if it.volume)
 
 
+def _places_read_apart(sections: Iterable[Section]) -> Iterator[tuple[int, int]]:
+    """Yields where the bodies of the sections begin and end whose bytes are read as a volume, or may be opened."""
+    for it in leaves(sections):
+        if it.volume or it.is_packed:
+            yield it.offset, it.offset + it.length
+
+
 def first_text(sections: Iterable[Section], kind: int) -> str:
     """Returns the first text of a section of this type that is not empty, otherwise an empty text."""
     return next(filter(None, (it.text for it in every_leaf(sections) if it.kind == kind)), "")
@@ -292,8 +299,8 @@ class Reader:
             cores = [it for it in volume.files if it.kind == names.SECURITY_CORE and not it.sections]
             for file in cores:
                 file.sections = self._core_sections(file)
-            if any(True for file in cores for _ in volumes_in(file.sections)):
-                self._add_unread(volume)  # a volume in a core is read now
+            if any(True for file in cores for _ in _places_read_apart(file.sections)):
+                self._add_unread(volume)  # these places of the cores are read now
             for file in volume.files:
                 self._open_under(file.sections, depth)
 
@@ -398,13 +405,18 @@ class Reader:
         return None
 
     def _with_unread(self, content: Found) -> Found:
-        """Adds the bytes that are in no volume and in no section, with the headers of volumes in them."""
-        for gap in content.others:
-            end = gap.offset + gap.length
-            if not is_erased(gap.data, gap.offset, end):
-                content.unread.append(_gap(gap))
-            content.unread += self._headers(gap.data, gap.offset, end, "the volume is not read")
+        """Adds the gaps that are not erased, and the headers of volumes that are not read."""
+        gaps = [_gap(it) for it in content.others if not is_erased(it.data, it.offset, it.offset + it.length)]
+        places = [*_places_read_apart(content.sections), *((it.offset, it.offset + it.length) for it in content.volumes)]
+        headers = self._headers_between(content.data, 0, places, len(content.data))
+        content.unread = sorted([*gaps, *headers], key=lambda it: it.offset)
         return content
+
+    def _headers_between(self, data: bytes, start: int, places: list[tuple[int, int]], end: int) -> Iterator[Unread]:
+        """Yields the headers of volumes that are not read between two offsets, but not at these places."""
+        starts, ends = [start, *(after for _, after in places)], [*(at for at, _ in places), end]
+        for at, before in zip(starts, ends):
+            yield from self._headers(data, at, before, "it is in bytes that are not read as volumes")
 
     def _headers(self, data: bytes, start: int, end: int, otherwise: str) -> Iterator[Unread]:
         """Yields the places at which the header of a volume may begin, with its fault, or with another reason why the
@@ -450,14 +462,12 @@ class Reader:
         """Adds the bytes of a volume whose contents are not read, and does the same for the volumes inside it."""
         remains = list(_remains(volume))
         self._budget.count(len(remains))
-        inner = [it for file in volume.files for it in volumes_in(file.sections)]
-        for it in inner:
-            self._add_unread(it)
-        starts = [volume.offset + SHORTEST_HEADER, *(it.offset + it.length for it in inner)]
-        ends = [*(it.offset for it in inner), volume.offset + volume.length]
-        for start, end in zip(starts, ends):
-            remains += self._headers(volume.data, start, end, "it is in a part that is not read as volumes")
-        volume.unread = sorted(remains, key=lambda it: it.offset)
+        for inner in (it for file in volume.files for it in volumes_in(file.sections)):
+            self._add_unread(inner)
+        places = [place for file in volume.files for place in _places_read_apart(file.sections)]
+        start, end = volume.offset + SHORTEST_HEADER, volume.offset + volume.length
+        headers = self._headers_between(volume.data, start, places, end)
+        volume.unread = sorted([*remains, *headers], key=lambda it: it.offset)
 
 
 def _gap(part: Part) -> Unread:
