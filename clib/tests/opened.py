@@ -174,6 +174,10 @@ def test_remains() -> None:
     assert [it[0] for it in unread_in(made.volume([made.A, begun, made.B]))] == ["unfinished file"]
     before = made.file(made.guid(2), made.noise("b", 50), state=0x0F)
     assert [it[0] for it in unread_in(made.volume([made.A, before, made.B]))] == ["superseded file"]
+    filled = made.C[:-1] + b"\1"
+    assert unread_in(made.volume([filled, made.B])) == [("filler", "bytes between two files")]
+    named = made.volume([made.B], name=made.guid(9))
+    assert unread_in(named) == [] and unread_in(changed(named, 72, *b"hidden")) == []
     for gap in (bytes(64), b"\xff" * 64):
         assert unread_in(gap + made.SMALL + gap) == []
     assert unread_in(b"A" * 64 + made.SMALL) == [("", "it is in no volume")]

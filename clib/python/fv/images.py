@@ -15,7 +15,7 @@ from __future__ import annotations
 import contextlib
 import functools
 import uuid
-from collections.abc import Iterable, Iterator, Sequence
+from collections.abc import Generator, Iterable, Iterator, Sequence
 from dataclasses import dataclass, field, replace
 from typing import TypeVar
 
@@ -29,9 +29,11 @@ from .limits import Budget, Full, Limits
 from .opened import OUT_OF_MEMORY, PACKED, Closed, Way, frames, is_erased, open_section
 
 # In the header of a volume: GUID of the file system, FvLength (its upper half is 0), the signature, HeaderLength.
-SYSTEM_AT, LENGTH_AT, SIGNATURE_AT, HEADER_LENGTH_AT, REVISION_AT = 16, 32, 40, 48, 55
+SYSTEM_AT, LENGTH_AT, SIGNATURE_AT, HEADER_LENGTH_AT, EXTENDED_OFFSET_AT, REVISION_AT = 16, 32, 40, 48, 52, 55
 SIGNATURE, BEFORE_SIGNATURE = b"\0\0\0\0_FVH", 4  # with the upper half of FvLength
 SHORTEST_HEADER, REVISION = 56, 2  # bytes of the header of a volume, and its revision
+EXTENDED_LENGTH_AT = 16  # in the extended header
+FILE_TYPE_AT, PAD_HEADER = 18, 24  # in the header of a file, and the bytes of the header of a pad file
 HEAD = 64  # bytes that show what lies outside of volumes
 FIXED, ATTRIBUTES_AT = 0x04, 19  # the attribute of a file that may not be moved; where a file header has the attributes
 SYSTEMS = {2: "FFS2", 3: "FFS3"}
@@ -66,8 +68,8 @@ class Part:
 @dataclass
 class Unread(Part):
     """Bytes whose contents are not read: what they are, in words (such as `pad`, `deleted file`, `variable store`), and
-    the reason why they are not read. `guid` is the GUID of a file, or of the file system of a volume. A gap is a stretch
-    of bytes that is in no volume and in no section."""
+    the reason why they are not read. `guid` is the GUID of a file, or of the file system of a volume. A gap is a
+    stretch of bytes that is in no volume and in no section."""
 
     what: str
     reason: str
@@ -81,9 +83,9 @@ class Volume(Part):
     its fault, and no files.
 
     libfv rejects a volume that has files marked as fixed, also inside it. This module reads the volume without their
-    marks, and sets `is_marked`. All bytes and attributes here are as stored, so they have the marks. `unread` are the bytes of the
-    volume that are not erased and whose contents are not read, in order: pads, superseded, deleted and unfinished
-    files, and bytes that look like the header of a further volume."""
+    marks, and sets `is_marked`. All bytes and attributes here are as stored, so they have the marks. `unread` are the
+    bytes of the volume that are not erased and whose contents are not read, in order: pads, fillers, superseded,
+    deleted and unfinished files, and bytes that look like the header of a further volume."""
 
     guid: uuid.UUID | None = None
     system: int = 0
@@ -377,7 +379,7 @@ class Reader:
         while (begin := self._next_header(data, at, len(data))) is not None:
             at = begin + 1
             if not self._header_fault(data, begin, len(data)):
-                length = int.from_bytes(data[begin + LENGTH_AT : begin + SIGNATURE_AT], "little")
+                length = _number(data, begin + LENGTH_AT, 8)
                 found.append(self._volume(data, begin, length))
                 at = begin + length
         return found
@@ -389,15 +391,15 @@ class Reader:
         while (found := data.find(SIGNATURE, at, end)) >= 0:
             self._budget.look()
             begin, at = found + BEFORE_SIGNATURE - SIGNATURE_AT, found + 1
-            length = int.from_bytes(data[begin + LENGTH_AT : begin + SIGNATURE_AT], "little")
-            header = int.from_bytes(data[begin + HEADER_LENGTH_AT : begin + HEADER_LENGTH_AT + 2], "little")
+            length = _number(data, begin + LENGTH_AT, 8)
+            header = _number(data, begin + HEADER_LENGTH_AT, 2)
             if SHORTEST_HEADER <= header <= length and begin + SHORTEST_HEADER <= end:
                 return begin
         return None
 
     def _header_fault(self, data: bytes, begin: int, end: int) -> Fault | None:
         """Returns the fault of a header, or None if it has none. Its block map may be long."""
-        self._budget.read_again(int.from_bytes(data[begin + HEADER_LENGTH_AT : begin + HEADER_LENGTH_AT + 2], "little"))
+        self._budget.read_again(_number(data, begin + HEADER_LENGTH_AT, 2))
         try:
             header_read(memoryview(data)[begin:end])
         except FaultError as error:
@@ -427,7 +429,7 @@ class Reader:
             self._budget.count(1)
             fault = self._header_fault(data, begin, end)
             reason = f"{fault}: {fault.text}" if fault else otherwise
-            length = int.from_bytes(data[begin + LENGTH_AT : begin + SIGNATURE_AT], "little")
+            length = _number(data, begin + LENGTH_AT, 8)
             guid = uuid.UUID(bytes_le=data[begin + SYSTEM_AT : begin + LENGTH_AT])
             what = _what_volume(guid, data[begin + REVISION_AT])
             yield Unread(data, begin, min(length, end - begin), what, reason, guid)
@@ -484,22 +486,45 @@ def _what_volume(system: uuid.UUID, revision: int) -> str:
 
 
 def _remains(volume: Volume) -> Iterator[Unread]:
-    """Yields the pads of a volume that hold bytes, and its files that are not valid."""
-    valid = {it.offset - it.header_length - volume.offset for it in volume.files}
+    """Yields the pads and fillers of a volume that hold bytes, and its files that are not valid."""
+    data, start = volume.data, volume.offset
+    valid = {it.offset - it.header_length - start for it in volume.files}
+    after = yield from _around_extended_header(volume)
     for cell in volume_cells(volume.plain):
-        if cell.kind not in REMAINS or cell.offset in valid:
-            continue
-        what, reason = REMAINS[cell.kind]
-        start = volume.offset + cell.offset
-        end = start + cell.length
-        guid: uuid.UUID | None = uuid.UUID(bytes_le=volume.data[start : start + 16])
+        at, end = start + cell.offset, start + cell.offset + cell.length
+        if not is_erased(data, after, at):
+            yield Unread(data, after, at - after, "filler", "bytes between two files")
+        after = end
+        what, reason = REMAINS.get(cell.kind, ("", ""))
         if cell.kind == CellKind.PAD:
-            start, guid = start + (cell.header_length or 0), None
-            if is_erased(volume.data, start, end):
-                continue
-            known = names.what_begins(volume.data[start : start + HEAD])
-            reason += f": {known}" if known else ""
-        yield Unread(volume.data, start, end - start, what, reason, guid)
+            at += cell.header_length or 0
+            if not is_erased(data, at, end):
+                known = names.what_begins(data[at : at + HEAD])
+                yield Unread(data, at, end - at, what, f"{reason}: {known}" if known else reason)
+        elif what and cell.offset not in valid:
+            yield Unread(data, at, end - at, what, reason, uuid.UUID(bytes_le=data[at : at + 16]))
+    if not is_erased(data, after, start + volume.length):
+        yield Unread(data, after, start + volume.length - after, "filler", "bytes after the last file")
+
+
+def _around_extended_header(volume: Volume) -> Generator[Unread, None, int]:
+    """Yields the bytes before the extended header of a volume if they hold more than the header of a pad file. Returns
+    where its header ends."""
+    data, start = volume.data, volume.offset
+    length, at = (_number(data, start + it, 2) for it in (HEADER_LENGTH_AT, EXTENDED_OFFSET_AT))
+    if not at:
+        return start + length
+    first, end = start + length, start + at
+    if end - first >= PAD_HEADER and data[first + FILE_TYPE_AT] == names.PAD_FILE:
+        first += PAD_HEADER
+    if not is_erased(data, first, end):
+        yield Unread(data, first, end - first, "pad", "bytes before the extended header")
+    return end + _number(data, end + EXTENDED_LENGTH_AT, 4)
+
+
+def _number(data: bytes, at: int, size: int) -> int:
+    """Returns the number in some bytes at a place."""
+    return int.from_bytes(data[at : at + size], "little")
 
 
 def _tree_of(volume: memoryview) -> Sequence[Node]:

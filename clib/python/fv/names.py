@@ -12,7 +12,7 @@ from collections.abc import Iterable, Iterator
 from pathlib import Path
 
 # Types of files, from 0x01 on.
-RAW_FILE, SECURITY_CORE = 0x01, 0x03
+RAW_FILE, SECURITY_CORE, PAD_FILE = 0x01, 0x03, 0xF0
 FILE_NAMES = """raw, freeform, SEC core, PEI core, DXE core, PEI module, DXE driver, PEI module and DXE driver, application,
 MM driver, volume image, MM and DXE driver, MM core, standalone MM driver, standalone MM core"""
 FILES = dict(enumerate(re.split(r",\s", FILE_NAMES), 0x01))
