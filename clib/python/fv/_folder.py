@@ -96,8 +96,8 @@ def _kept(folder: int, ending: contextlib.ExitStack) -> int:
 
 
 def _walk(path: Path, ending: contextlib.ExitStack) -> int:
-    """Returns a descriptor for a folder. Makes the folders on the way that are not there, and removes them at the end if
-    nothing is in them."""
+    """Returns a descriptor for a folder. Makes the folders on the way that are not there, and removes them at the end
+    if nothing is in them."""
     at = _kept(os.open(path.anchor, PLACE), ending)
     here = Path(path.anchor)
     try:

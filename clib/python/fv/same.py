@@ -55,7 +55,7 @@ SAME, DIFFERENT, REJECTED = "same", "different", "rejected"
 ONLY_FIRST, ONLY_SECOND = "only in the first", "only in the second"
 EQUAL_BYTES, OTHER_BYTES = "equal bytes", "bytes differ"
 NOT_OPENED = "not opened"
-OUTSIDE = [what for what, _ in REMAINS.values()]  # the bytes that are not read and are outside of the meaning
+OUTSIDE = [*(what for what, _ in REMAINS.values()), "filler"]  # bytes that are not read, outside of the meaning
 MOST_ASIDES = 20  # lines about bytes outside of the meaning
 STATUS = {SAME: cli.DONE, DIFFERENT: cli.OTHER, REJECTED: cli.REJECTED}
 
@@ -148,8 +148,8 @@ def compare_images(
     limits: Limits = Limits(),
     note: Callable[[int], None] = lambda number: None,
 ) -> Report:
-    """Returns the differences between two images. `note` takes the number of an image that has no volume. Raises Full if
-    one of them exceeds a limit."""
+    """Returns the differences between two images. `note` takes the number of an image that has no volume. Raises Full
+    if one of them exceeds a limit."""
     if first == second:
         return Report()
     readers = Reader(first, limits), Reader(second, limits)
@@ -184,7 +184,8 @@ class Comparison:
                 report.volumes.append(Pair(at, at, volume.length, verdict, fixed=fixed))
         if not report.is_other_layout:
             report.other_bytes = _other_bytes(first, second)
-        report.moved = _moves([it for at, it in old.items() if at not in new], [it for at, it in new.items() if at not in old])
+        alone = ([it for at, it in one.items() if at not in two] for one, two in ((old, new), (new, old)))
+        report.moved = _moves(*alone)
         report.outside_meaning = self._asides
         report.verdict = _verdict(report)
         return report
@@ -246,7 +247,7 @@ class Comparison:
         inner: list[Change] = []
         is_changed = _own(old) != _own(new)
         for one, two in zip(volumes_in(old.sections), volumes_in(new.sections)):
-            if volume_compare(one.body, two.body):
+            if _difference(one, two):
                 files = self._changes(one, two, [*around, str(new.guid)], depth)
                 is_changed = is_changed or not files
                 inner += files
@@ -361,9 +362,25 @@ def _difference(old: Volume, new: Volume) -> str | None:
     marks of files differ, names the attributes of the first of these files. Returns None if nothing differs."""
     if old.body == new.body:
         return None
-    marks = (one.is_fixed != two.is_fixed for one, two in zip(old.files, new.files))
-    marked = (f"different at file {number} attributes" for number, differ in enumerate(marks) if differ)
-    return volume_compare(old.plain, new.plain) or next(marked, None)
+    marks = (f"different at {it} attributes" for it in _other_marks(old, new))
+    return volume_compare(old.plain, new.plain) or next(marks, None)
+
+
+def _other_marks(old: Volume, new: Volume) -> Iterator[str]:
+    """Yields the steps down to each file that is marked fixed in only one of two volumes."""
+    for number, (one, two) in enumerate(zip(old.files, new.files)):
+        if one.is_fixed != two.is_fixed:
+            yield f"file {number}"
+        yield from (f"file {number} {it}" for it in _marks_under(one.sections, two.sections))
+
+
+def _marks_under(old: list[Section], new: list[Section]) -> Iterator[str]:
+    """Yields the steps down to each file in sections that is marked fixed on only one side."""
+    for number, (one, two) in enumerate(zip(old, new)):
+        found = _marks_under(one.sections, two.sections)
+        if one.volume and two.volume:
+            found = _other_marks(one.volume, two.volume)
+        yield from (f"section {number} {it}" for it in found)
 
 
 def _faults(old: Volume, new: Volume) -> list[str]:

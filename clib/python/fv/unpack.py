@@ -171,7 +171,8 @@ def hindrance(given: argparse.Namespace) -> str:
     if given.only:
         if given.folder and os.path.lexists(given.folder):
             return f"{given.folder} exists already: give the name of a new file"
-        return "" if given.folder or not sys.stdout.isatty() else "standard output is a terminal: give a FILE, or a pipe"
+        is_screen = not given.folder and sys.stdout.isatty()
+        return "standard output is a terminal: give a FILE, or a pipe" if is_screen else ""
     folder = Path(os.path.realpath(given.folder)) if given.folder else None
     names = sorted(it.name for it in folder.iterdir()) if folder and folder.exists() else []
     if names == [ROOM]:
