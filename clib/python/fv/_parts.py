@@ -135,7 +135,7 @@ class _Walk:
             elif section.sections:
                 inner = f"{path}{_numbered('group', counts)}/"
                 entry = Entry(inner, section, place.within, "section", section.type_name)
-                yield _doubted(entry, [section.closed] if section.closed else [])
+                yield _doubted(entry, "read", [section.closed] if section.closed else [])
                 yield from self._sections(section.sections, inner, place)
             else:
                 yield self._leaf(section, f"{path}{_numbered(_name_of(section), counts)}", place.within)
@@ -143,7 +143,8 @@ class _Walk:
     def _opened(self, section: Section, content: Opened, path: str, place: Place) -> Iterator[Entry]:
         """Yields an opened section, and its contents."""
         note = f"{content.way.name}: {len(content.data)} bytes"
-        yield _doubted(Entry(path, section, place.within, "section", section.type_name, note=note), content.doubts)
+        entry = Entry(path, section, place.within, "section", section.type_name, note=note)
+        yield _doubted(entry, "opened", content.doubts)
         inside = replace(place, within=path)
         yield from self._sections(content.sections, path, inside)
         for volume in content.volumes:
@@ -159,13 +160,14 @@ class _Walk:
         return replace(entry, note=self._names.depex(section.body)) if section.kind in DEPEX else entry
 
 
-def _doubted(entry: Entry, doubts: list[str]) -> Entry:
-    """Returns the entry of a section that was opened, with the reasons why its contents may be wrong or incomplete."""
+def _doubted(entry: Entry, done: str, doubts: list[str]) -> Entry:
+    """Returns the entry of a section that was read or opened, with the reasons why its contents may be wrong or
+    incomplete."""
     if not doubts:
         return entry
     doubt = "; ".join(doubts)
     note = f"{entry.note}; {doubt}" if entry.note else doubt
-    return replace(entry, note=note, line=f"{entry.path}: opened, but {doubt}", status=cli.OTHER)
+    return replace(entry, note=note, line=f"{entry.path}: {done}, but {doubt}", status=cli.OTHER)
 
 
 def _others(content: Content, folder: str, within: str) -> Iterator[Entry]:

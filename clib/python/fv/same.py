@@ -12,11 +12,11 @@ Each volume that differs or is rejected has a line, and after it each of its fil
 its user interface section, and a name in parentheses is EDK II's name for its GUID. If a volume is at another place in
 the second input, a line says from where to where it moved.
 
-These bytes of a volume are outside of the meaning, so they may differ in inputs that are the same: pads; deleted,
-superseded and unfinished files; fillers and free space; the states, the checksums and the places of files; and the
-header's checksum. So `same` does not say that the inputs have equal bytes, or that nothing is hidden in a pad. If the
-contents of pads, or deleted, superseded or unfinished files differ, a line says so, with the place. It does not change
-the verdict.
+These bytes of a volume are outside of its meaning, so they may differ in inputs that are the same: pads; deleted,
+superseded and unfinished files; the fillers after files; the gaps between sections and around an extended header; the
+states and the places of files. So `same` does not say that the bytes are equal, or that nothing is hidden in a pad. If
+pads, fillers, or deleted, superseded or unfinished files hold other bytes, a line says so, with the place. It does not
+change the verdict.
 
 With --json the output is an object: `verdict`; `fault`, why the inputs were not compared, or null; `is_other_layout`,
 whether the two have volumes at different offsets or of different lengths; `other_bytes`, the offset of the first byte
