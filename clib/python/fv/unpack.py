@@ -5,7 +5,7 @@ FOLDER gets a folder for each volume at every level. That folder has a folder fo
 section, such as `02-DXEFV/001-DxeCore/pe32.efi`; the second section of a type is `pe32-2.efi`. The data of a file
 without sections are `body.bin`. Compressed sections are opened, and their contents are in folders such as `lzma`. A
 section that is not opened is written as it is, and so are bytes outside of volumes, as `outside-OFFSET.bin`, unless all
-are equal.
+of them are 0x00 or all are 0xFF.
 
 An image is read whole, or the output says what is not read. Further files have the bytes of pads that are not erased,
 of deleted, superseded and unfinished files, and of what looks like the header of a volume but is not read as a volume,
@@ -239,8 +239,8 @@ def write_new(name: str, data: memoryview) -> None:
 def main(words: list[str]) -> int:
     """Runs the command."""
     given = parser().parse_args(words)
-    ways = [given.list, bool(given.folder)] if given.only is None else [bool(given.only), given.list]
-    if given.folder == "" or ways.count(True) != 1 or (not given.list and (given.sums or given.json)):
+    is_clear = given.list != bool(given.folder) if given.only is None else given.only != "" and not given.list
+    if given.folder == "" or not is_clear or (not given.list and (given.sums or given.json)):
         parser().error("IMAGE and FOLDER are needed, or --list and IMAGE, or --only, PART and IMAGE")
     cli.limit_memory()
     cli.end_by_signals()
