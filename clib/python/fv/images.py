@@ -231,9 +231,10 @@ def volumes_in(sections: Iterable[Section]) -> Iterator[Volume]:
 
 
 def _places_read_apart(sections: Iterable[Section]) -> Iterator[tuple[int, int]]:
-    """Yields where the bodies of the sections begin and end whose bytes are read as a volume, or may be opened."""
+    """Yields where the bodies of the sections begin and end in which no header of a volume is looked for: they are read
+    as a volume, may be opened, or are code. (Drivers of variables have the header of a store that they make.)"""
     for it in leaves(sections):
-        if it.volume or it.is_packed:
+        if it.volume or it.is_packed or it.kind in names.CODE:
             yield it.offset, it.offset + it.length
 
 
