@@ -466,7 +466,8 @@ class Reader:
         remains = list(_remains(volume))
         self._budget.count(len(remains))
         for inner in (it for file in volume.files for it in volumes_in(file.sections)):
-            self._add_unread(inner)
+            if not inner.fault:
+                self._add_unread(inner)
         places = [place for file in volume.files for place in _places_read_apart(file.sections)]
         start, end = volume.offset + SHORTEST_HEADER, volume.offset + volume.length
         headers = self._headers_between(volume.data, start, places, end)
