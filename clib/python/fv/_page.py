@@ -13,7 +13,7 @@ from dataclasses import dataclass
 from pathlib import Path
 from typing import TypeVar
 
-from ._sheet import Changes, Drawing, Lack, Row, Sheet, bytes_in, meaning_of, short
+from ._sheet import Changes, Drawing, Lack, Row, Sheet, bytes_in, meaning_of
 from .images import File, Part, Unread, Volume
 from .shown import printable
 
@@ -279,15 +279,16 @@ class Page:
 
     def flash(self, drawing: Drawing) -> None:
         """Adds the section of the image: where its volumes are, and the parts that are not volumes."""
-        stripes: list[tuple[Stripe, Sheet | Unread | None]] = []
+        stripes: list[tuple[Stripe, Sheet | str]] = []  # each with its volume, or with a note
         for gap, sheet in zip(gaps(drawing), [*drawing.sheets, None]):
             for at, length, it in pieces(gap.unread, gap.start, gap.end):
-                stripes.append(((at, length, "none", short(it.what) if it else NO_VOLUME, ""), it))
+                note = "erased" if it is None else "not erased" if it.is_gap else it.reason
+                stripes.append(((at, length, "none", it.what if it and it.what else NO_VOLUME, ""), note))
             if sheet:
                 color = "bad" if sheet.volume.fault else "image"
                 place = sheet.volume.offset, sheet.size
                 stripes.append(((*place, color, sheet.name, self.anchor(sheet.volume)), sheet))
-        stripes.append(((drawing.end, len(drawing.data) - drawing.end, "unread", "not shown", ""), None))
+        stripes.append(((drawing.end, len(drawing.data) - drawing.end, "unread", "not shown", ""), ""))
         stripes = [it for it in stripes if it[0][1]]
         self.add("<section><h2>The image</h2>")
         if not drawing.sheets:
@@ -300,8 +301,7 @@ class Page:
                 self.rows(its, 0)
             else:
                 cells = f'{text(title)}{offset_cells(at)}<td class="n">{amount(length)}'
-                reason = text(short(its.reason)) if its else ""
-                self.add(f'<tr class="dim"><td class="name">{cells}<td colspan="5">{reason}</tr>')
+                self.add(f'<tr class="dim"><td class="name">{cells}<td colspan="5">{text(its)}</tr>')
         self.add("</table></div></section>")
 
     def rows(self, sheet: Sheet, depth: int) -> None:
@@ -488,8 +488,8 @@ class Page:
             where = f'<a href="#{self.anchor(it.near)}">{where}</a>' if it.near else where
             size = f'<td class="n" title="{it.part.length:,} bytes">{amount(it.part.length)}'
             self.add(
-                f"<tr>{offset_cells(it.part.offset)}{size}<td>{text(short(it.what))}{mark}"
-                f'<td class="long dim">{text(short(it.reason))}<td class="long">{where}</tr>'
+                f"<tr>{offset_cells(it.part.offset)}{size}<td>{text(it.what)}{mark}"
+                f'<td class="long dim">{text(it.reason)}<td class="long">{where}</tr>'
             )
         self.add("</table></div></details></section>")
 

@@ -339,7 +339,7 @@ class _Lacks:
 def _unread(found: Iterable[Unread], where: str, near: Volume | File | None) -> Iterator[Lack]:
     """Yields bytes that are not read."""
     for it in found:
-        yield Lack(it, it.what, it.reason, where, near)
+        yield Lack(it, it.what or "bytes", it.reason, where, near)
 
 
 def _apart(lacks: Iterable[Lack]) -> Iterator[tuple[Lack, int]]:
