@@ -570,7 +570,7 @@ def main() -> int:
     """Reads the arguments, and tries the bombs. Returns the exit status."""
     given = parser().parse_args()
     os.environ.setdefault("LIBFV", str(ROOT / "clib/out/libfv.so.2"))
-    os.environ["PYTHONPATH"] = str(ROOT / "clib/python")
+    os.environ.update(PYTHONPATH=str(ROOT / "clib/python"), PYTHONDONTWRITEBYTECODE="1")
     signal.signal(signal.SIGXFSZ, signal.SIG_DFL)
     commands = [it for it in COMMANDS if not given.command or it.name in given.command]
     small = small_bombs(HELD // 20, PARTS // 20) if given.brief else small_bombs(HELD - MIB, PARTS)

@@ -14,8 +14,8 @@ bytes that are in no volume and are not erased.
 
 Exit status 0: the page is written, and everything was read. 1: the page is written, but an image has no volume, not
 everything of it was read, or it has more than is drawn. 2: an image cannot be read, or exceeds a limit, and nothing is
-written. 3: the arguments are wrong, or the output is a terminal. 4: the library libfv, the names or the output cannot be
-used."""
+written. 3: the arguments are wrong, or the output is a terminal. 4: the library libfv, the names or the output cannot
+be used."""
 
 from __future__ import annotations
 
