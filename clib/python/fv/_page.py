@@ -19,6 +19,7 @@ from .shown import printable
 
 MOST_VOLUMES = 250  # volumes of a page
 MOST_DRAWN = 1000  # files of a volume that are drawn as areas
+MOST_PIECES = 2000  # parts of an image that are in no volume
 MOST_PARTS = 3000  # parts of a strip
 MOST_ROWS = 5000  # rows of a table
 MOST_OPEN = 50  # rows of the table of the parts that are not read, if it is open at first
@@ -289,14 +290,16 @@ class Page:
                 place = sheet.volume.offset, sheet.size
                 stripes.append(((*place, color, sheet.name, self.anchor(sheet.volume)), sheet))
         stripes.append(((drawing.end, len(drawing.data) - drawing.end, "unread", "not shown", ""), ""))
-        stripes = [it for it in stripes if it[0][1]]
+        others = [it for it in stripes if it[0][1] and isinstance(it[1], str)]
+        kept = {it[0][0] for it in self.up_to(MOST_PIECES, others, "parts beside volumes")}
+        stripes = [it for it in stripes if it[0][1] and (isinstance(it[1], Sheet) or it[0][0] in kept)]
         self.add("<section><h2>The image</h2>")
         if not drawing.sheets:
             self.add("<p>No firmware volume was found in this image.</p>")
         self.strip([stripe for stripe, _ in stripes], len(drawing.data))
         self.add('<div class="wide"><table><tr><th>Volume<th class="n" colspan="2">Offset<th class="n">Size')
         self.add('<th class="n">Files<th>Used<th class="n">Pads<th class="n">Free<th>Verdict</tr>')
-        for (at, length, _, title, _), its in self.up_to(MOST_ROWS, stripes, "rows of the image"):
+        for (at, length, _, title, _), its in stripes:
             if isinstance(its, Sheet):
                 self.rows(its, 0)
             else:
