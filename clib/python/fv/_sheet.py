@@ -4,6 +4,7 @@ the parts that are not read, and the files that came, went and changed since ano
 
 from __future__ import annotations
 
+import bisect
 import hashlib
 from collections import Counter
 from collections.abc import Hashable, Iterable, Iterator
@@ -310,7 +311,13 @@ class _Lacks:
         if volume.fault:
             yield Lack(volume, "rejected volume", meaning_of(volume.fault), where, volume)
         here = inside(where, self._names.volume(volume, number))
-        yield from _unread(volume.unread, here, volume)
+        starts = [it.offset for it in volume.files]
+        for lack in _unread(volume.unread, here, volume):
+            index = bisect.bisect(starts, lack.part.offset) - 1
+            file = volume.files[index] if index >= 0 else None
+            if file and lack.part.offset < file.offset + file.length:
+                lack.where, lack.near = inside(here, self._names.file(file)), file
+            yield lack
         for file in volume.files:
             if file.sections:
                 yield from self._file(file, inside(here, self._names.file(file)))
