@@ -174,6 +174,11 @@ def test_remains() -> None:
     assert [it[0] for it in unread_in(made.volume([made.A, begun, made.B]))] == ["unfinished file"]
     before = made.file(made.guid(2), made.noise("b", 50), state=0x0F)
     assert [it[0] for it in unread_in(made.volume([made.A, before, made.B]))] == ["superseded file"]
+    marked = made.file(made.guid(2), made.noise("b", 50), attributes=made.FIXED, state=0x0F)
+    nested = made.file(made.guid(6), made.section(made.VOLUME, made.volume([marked, made.B], 0x1000)), made.VOLUME_IMAGE)
+    for data in (made.volume([marked, made.B]), made.volume([nested])):
+        volumes = [volume for volume, _ in images.files_in(images.read(data))]
+        assert [it.what for it in volumes[-1].unread] == ["superseded file"] and not volumes[-1].fault
     filled = made.C[:-1] + b"\1"
     assert unread_in(made.volume([filled, made.B])) == [("filler", "bytes between two files")]
     named = made.volume([made.B], name=made.guid(9))
