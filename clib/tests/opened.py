@@ -197,7 +197,7 @@ def test_doubts() -> None:
     text = made.ui("Text")
     whole = lzma.compress(text, format=lzma.FORMAT_ALONE)
     sum_of = struct.pack("<I", zlib.crc32(text))
-    cases = [(made.guided(made.LZMA, whole), []), (made.guided(made.LZMA, whole + bytes(9)), [])]
+    cases: list[tuple[bytes, list[str]]] = [(made.guided(made.LZMA, whole + filler), []) for filler in (b"", bytes(9))]
     cases.append((made.guided(made.LZMA, whole + b"more"), ["4 bytes follow the packed data"]))
     for stored, doubts in ((sum_of, []), (bytes(4), ["the CRC32 is wrong"])):
         head = made.CRC32.bytes_le + struct.pack("<HH", 28, 1) + stored

@@ -447,7 +447,7 @@ class Reader:
             fault = replace(error.fault, offset=offset + error.fault.offset)
             rejected = Volume(data, offset, length, name, fault=fault)
             inside = "it is in a volume that is rejected"
-            rejected.unread = list(self._headers(data, offset + SHORTEST_HEADER, offset + length, inside))
+            rejected.unread = list(self._headers(data, offset + 1, offset + length, inside))
             return rejected
         self._budget.count(len(rows))
         parts: list[Part] = []
@@ -470,8 +470,7 @@ class Reader:
             if not inner.fault:
                 self._add_unread(inner)
         places = [place for file in volume.files for place in _places_read_apart(file.sections)]
-        start, end = volume.offset + SHORTEST_HEADER, volume.offset + volume.length
-        headers = self._headers_between(volume.data, start, places, end)
+        headers = self._headers_between(volume.data, volume.offset + 1, places, volume.offset + volume.length)
         volume.unread = sorted([*remains, *headers], key=lambda it: it.offset)
 
 
