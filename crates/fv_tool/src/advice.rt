@@ -69,10 +69,12 @@ pub struct Escaped<'a>(pub &'a str);
 
 impl fmt::Display for Escaped<'_> {
     fn fmt<W: fmt::Write>(&self, f: &mut fmt::Formatter<W>) -> fmt::Result {
-        for (i, c) in self.0.chars().enumerate() {
-            if i == SHOWN {
+        let mut left = SHOWN;
+        for c in self.0.chars() {
+            if left == 0 {
                 return f.write_str("..");
             }
+            left -= 1;
             match c {
                 '\'' | '"' => f.write_char(c)?,
                 _ => write!(f, "{}", c.escape_debug())?,
