@@ -152,16 +152,17 @@ class Rejection:
 SOURCE = "compare the input with its source"
 OFFSET = "the offset shows where: man fvtool lists the faults"
 LOOK = "fvtool scan FILE finds volumes, fv-unpack --list FILE looks further"
-INSIDE = f"this is a volume inside the input: {SOURCE}"
 UNFIX = "fvtool unfix makes a copy without the marks; fv-same, fv-unpack and fv-map need no copy"
 GOES_ON = "fvtool check --all goes on with the other volumes; fv-same, fv-unpack and fv-map read this one"
 NO_IMAGE = "fvtool list and fvtool compare need no image"
+# The header of a volume of 128 bytes, with a header length of 2112 bytes.
+LONG_HEADER = "00*16 78e58c8c3d8a1c4f9935896185c32dd3 80 00*7 5f465648fffe0400 4008cef500000002 0100000080000000 00*8"
 TWO, FOLLOW = "two-sections two-sections", "bytes follow the volume"
 REJECTIONS = [
     Rejection("616263", "list FILE", "fault 1 at 3", "is the file whole? fvtool scan FILE finds volumes"),
     Rejection("ff*64", "check FILE", "fault 2 at 40", LOOK),
     Rejection("head-file-system", "list FILE", "fault 3 at 16", LOOK),
-    Rejection("H256 0a*16 b9aa0b009c0000f884000017 00*128 ff*28", "list FILE", "fault 2 at 140", INSIDE),
+    Rejection(f"H256 0a*16 b9aa0b009c0000f884000017 {LONG_HEADER} ff*84", "list FILE", "fault 1 at 228", SOURCE),
     Rejection("head-sum-off-by-one", "list FILE", "fault 6 at 0", SOURCE),
     Rejection("head-length-over-256m", "list FILE", "fault 8 at 32", SOURCE, "the length in the header of a volume is wrong"),
     Rejection(TWO, "check FILE", "fault 8 at 128", "try --at 0, or --all", FOLLOW),
@@ -183,7 +184,8 @@ REJECTIONS = [
 
 def rejection_cases(folder: Path) -> list[Case]:
     """Returns a run for each rejection. Writes the inputs to a folder."""
-    meanings = dict(re.findall(r"(?m)^\| (\d+) \| (.*?) \|", read("docs/FAULTS.md").partition("What it means for you")[2]))
+    table = read("docs/FAULTS.md").partition("## What each fault means for you")[2].partition("\n## ")[0]
+    meanings = dict(re.findall(r"(?m)^\| (\d+) \| (.*?) \|", table))
     found: list[Case] = []
     for number, it in enumerate(REJECTIONS):
         path, is_text = folder / str(number), "--hex" in it.command
@@ -229,7 +231,7 @@ def cases(folder: Path) -> list[Case]:
         *wrong_cases(),
         *rejection_cases(folder),
         *file_cases(short),
-        Case(["check", "--all", str(fixed)], 2, lines, meaning(faulty, read_by)),
+        Case(["check", "--all", str(fixed)], 2, lines, meaning(faulty, read_by, str(fixed))),
         Case(["scan", short], 0, "", NO_VOLUME, ""),
         Case(["check", "--all", short], 0, "", NO_VOLUME, ""),
         Case(["scan"], 0, "", NO_VOLUME, ""),

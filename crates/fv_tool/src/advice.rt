@@ -84,6 +84,19 @@ impl fmt::Display for Escaped<'_> {
     }
 }
 
+/// The head of a line about a file. `Display` writes the path and a colon, or nothing without a path.
+#[derive(Clone, Copy)]
+pub struct Head<'a>(pub Option<&'a str>);
+
+impl fmt::Display for Head<'_> {
+    fn fmt<W: fmt::Write>(&self, f: &mut fmt::Formatter<W>) -> fmt::Result {
+        match self.0 {
+            Some(path) => write!(f, "{}: ", Escaped(path)),
+            None => Ok(()),
+        }
+    }
+}
+
 /// A message for a person, which `Display` writes. The message is not part of the result of a run.
 #[derive(Clone, Copy)]
 pub enum Advice<'a> {
@@ -104,8 +117,9 @@ pub enum Advice<'a> {
     /// The run was refused. The message is the meaning of the fault that stopped it, and what to do
     /// next.
     Refused(Cause<'a>),
-    /// A volume of an image was rejected, and its line has the fault.
-    Faulty,
+    /// A volume of an image was rejected, and its line has the fault. The image is the file at this
+    /// path, or None if it is not known or is standard input.
+    Faulty(Option<&'a str>),
     /// A write of the result failed.
     NotWritten,
     /// The image has no volume. The message says how to search for one.
@@ -140,7 +154,7 @@ impl fmt::Display for Advice<'_> {
                 {SYNOPSIS}\n{COMMANDS}\n{MORE}"
             ),
             Advice::Refused(cause) => write!(f, "fvtool: {cause}"),
-            Advice::Faulty => write!(f, "fvtool: {FAULTY}"),
+            Advice::Faulty(path) => write!(f, "fvtool: {}{FAULTY}", Head(*path)),
             Advice::NotWritten => write!(f, "fvtool: {} ({INCOMPLETE})", FaultKind::WriteFault),
             Advice::NoVolume => write!(f, "fvtool: no volume was found ({FURTHER})\n{SEARCH}"),
         }

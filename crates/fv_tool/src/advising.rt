@@ -87,6 +87,13 @@ fn explain_refusal<P: Process>(alloc: Global, process: &P, refusal: Refusal) {
     }
 }
 
+// Says that a volume of an image was rejected.
+fn explain_rejected_volume<P: Process>(alloc: Global, process: &P) {
+    let plan = plan_of(alloc, process);
+    let path = plan.as_ref().and_then(|plan| plan.first());
+    process.advise(Advice::Faulty(path.map(|path| path.as_str())));
+}
+
 // Returns whether the command writes a line for each volume of an image, and nothing else.
 fn finds_volumes(command: &Command) -> bool {
     match command {
@@ -115,7 +122,7 @@ pub fn advise<P: Process>(alloc: Global, process: &P, ending: Ending, is_written
     }
     match ending.status {
         Status::WrongArguments => explain_arguments(alloc, process),
-        Status::Faulty => process.advise(Advice::Faulty),
+        Status::Faulty => explain_rejected_volume(alloc, process),
         Status::Done if process.is_at_terminal() && !process.has_written() => {
             explain_no_output(alloc, process);
         }

@@ -1,6 +1,6 @@
 //! What the fault of a refused run means, and what a person can do next.
 
-use crate::advice::{Escaped, INCOMPLETE};
+use crate::advice::{Head, INCOMPLETE};
 use fv_base::limits::VOLUME_LIMIT;
 use fv_base::{Fault, FaultKind};
 use fv_command::Refusal;
@@ -32,12 +32,10 @@ pub struct Cause<'a> {
 
 impl fmt::Display for Cause<'_> {
     fn fmt<W: fmt::Write>(&self, f: &mut fmt::Formatter<W>) -> fmt::Result {
-        if let Some(path) = self.file {
-            write!(f, "{}: ", Escaped(path))?;
-        }
+        let head = Head(self.file);
         match self.meaning {
-            Some(meaning) => write!(f, "{meaning} ({})", self.next),
-            None => write!(f, "{} ({})", self.refusal, self.next),
+            Some(meaning) => write!(f, "{head}{meaning} ({})", self.next),
+            None => write!(f, "{head}{} ({})", self.refusal, self.next),
         }
     }
 }
@@ -68,12 +66,9 @@ fn file_of(plan: &Plan, refusal: Refusal) -> Option<&String> {
 
 // Returns the task of a command with one input.
 fn task_of(plan: Option<&Plan>) -> Option<Task> {
-    match plan {
-        Some(plan) => match &plan.command {
-            Command::Single { task, .. } => Some(*task),
-            _ => None,
-        },
-        None => None,
+    match &plan?.command {
+        Command::Single { task, .. } => Some(*task),
+        _ => None,
     }
 }
 
@@ -121,21 +116,14 @@ fn fixed_step(fault: Fault, task: Option<Task>) -> &'static str {
     }
 }
 
-// Returns what to do if no volume begins where one should.
-fn missing_step(fault: Fault) -> &'static str {
-    if fault.place.depth > 0 {
-        return "this is a volume inside the input: compare the input with its source";
-    }
-    match fault.kind {
-        FaultKind::Truncated => "is the file whole? fvtool scan FILE finds volumes",
-        _ => "fvtool scan FILE finds volumes, fv-unpack --list FILE looks further",
-    }
-}
-
 // Returns what to do about a fault.
 fn step_of(fault: Fault, refusal: Refusal, task: Option<Task>) -> &'static str {
     match fault.kind {
-        FaultKind::Truncated | FaultKind::Signature | FaultKind::FileSystem => missing_step(fault),
+        FaultKind::Truncated if fault.place.depth > 0 => SOURCE,
+        FaultKind::Truncated => "is the file whole? fvtool scan FILE finds volumes",
+        FaultKind::Signature | FaultKind::FileSystem => {
+            "fvtool scan FILE finds volumes, fv-unpack --list FILE looks further"
+        }
         FaultKind::Length => length_step(fault, refusal, task),
         FaultKind::Fixed => fixed_step(fault, task),
         FaultKind::Revision
@@ -157,13 +145,9 @@ fn step_of(fault: Fault, refusal: Refusal, task: Option<Task>) -> &'static str {
 impl<'a> Cause<'a> {
     /// Returns the cause of a refusal, as far as it is known which plan was run.
     pub fn new(refusal: Refusal, plan: Option<&'a Plan>) -> Cause<'a> {
-        let file = match plan {
-            Some(plan) => match file_of(plan, refusal) {
-                Some(path) => Some(path.as_str()),
-                None => None,
-            },
-            None => None,
-        };
+        let file = plan
+            .and_then(|plan| file_of(plan, refusal))
+            .map(|path| path.as_str());
         let (meaning, next) = match fault_of(refusal) {
             Some(fault) if fault.kind == FaultKind::Length => (
                 Some(length_meaning(fault)),
