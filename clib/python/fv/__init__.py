@@ -34,8 +34,9 @@ Any number of threads may call at once. A process that has threads must not call
 forked: let multiprocessing use spawn or forkserver.
 
 The returned values are immutable. Headers, checks, cells, nodes, digests and blocks come in a sequence that makes each
-of them when you access it. A field that a part does not have is None. An `efi_type` is an int, because firmware may have
-any value there; compare it with a member of FileType or SectionType. Buffer is the type of an input, for type hints.
+of them when you access it. A field that a part does not have is None. An `efi_type` is an int, because firmware may
+have any value there; compare it with a member of FileType or SectionType. Buffer is the type of an input, for type
+hints.
 
 A rejected input raises FaultError, a ValueError whose `fault` is the reason. Running out of memory raises MemoryError.
 The number of a row that does not exist raises IndexError. The first call raises ImportError if the library is missing,
