@@ -503,8 +503,9 @@ FV_CHECKED_ fv_result fv_hobs_read(const void *list, size_t size, fv_hob *rows, 
  * Returns FV_OK, or FV_BUFFER_TOO_SMALL if text_size < FV_GUID_TEXT_SIZE. */
 FV_CHECKED_ fv_result fv_guid_text(const fv_guid *guid, char *text, size_t text_size);
 
-/* Reads a GUID from a text of this form, with digits in either case. The text ends before its first NUL, or after
- * text_size bytes, so text_size may be its length or the size of its buffer. No byte is read after a NUL.
+/* Reads a GUID from a text such as 8c8ce578-8a3d-4f1c-9935-896185c32dd3, with digits of either case. The text ends
+ * before its first NUL, or after text_size bytes, so text_size may be its length or the size of its buffer. No byte
+ * after a NUL is read.
  * Returns FV_OK. Returns FV_BAD_GUID if the text has another form, also with braces or spaces, and leaves *guid
  * unchanged. */
 FV_CHECKED_ fv_result fv_guid_parse(const char *text, size_t text_size, fv_guid *guid);

@@ -11,7 +11,7 @@ use std::mem::{align_of, size_of, transmute};
 use std::os::raw::{c_char, c_void};
 
 /// The result of a call: one of `FV_OK`, `FV_FAULT_*`, `FV_OUT_OF_MEMORY`, `FV_BUFFER_TOO_SMALL`,
-/// `FV_NOT_FOUND` and `FV_BAD_ARGUMENT`, or one that a later version adds.
+/// `FV_NOT_FOUND`, `FV_BAD_ARGUMENT` and `FV_BAD_GUID`, or one that a later version adds.
 pub type fv_result = u32;
 
 pub const FV_VERSION: &str = "2.1.0-dev";
@@ -583,9 +583,10 @@ extern "C" {
     /// if text_size < `FV_GUID_TEXT_SIZE`.
     pub fn fv_guid_text(guid: *const fv_guid, text: *mut c_char, text_size: usize) -> fv_result;
 
-    /// Reads a GUID from a text of this form, with digits in either case. The text ends before its
-    /// first NUL, or after text_size bytes, so text_size may be its length or the size of its
-    /// buffer. No byte is read after a NUL. Returns `FV_OK`. Returns `FV_BAD_GUID` if the text has
-    /// another form, also with braces or spaces, and leaves `*guid` unchanged.
+    /// Reads a GUID from a text such as 8c8ce578-8a3d-4f1c-9935-896185c32dd3, with digits of either
+    /// case. The text ends before its first NUL, or after text_size bytes, so text_size may be its
+    /// length or the size of its buffer. No byte after a NUL is read. Returns `FV_OK`. Returns
+    /// `FV_BAD_GUID` if the text has another form, also with braces or spaces, and leaves `*guid`
+    /// unchanged.
     pub fn fv_guid_parse(text: *const c_char, text_size: usize, guid: *mut fv_guid) -> fv_result;
 }
