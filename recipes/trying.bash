@@ -4,6 +4,7 @@
 # check a run. A test sources this file and ends with `tried`. It works in a scratch folder, and writes nothing beside
 # the sources.
 set -euo pipefail
+unset CDPATH # with it, cd writes the folder
 recipes=$(cd "$(dirname "${BASH_SOURCE[0]}")" && pwd)
 export FVTOOL=${FVTOOL:-$recipes/../crates/fv_tool/out/fv_tool} PYTHONDONTWRITEBYTECODE=1 LC_ALL=C
 # The commands of the Python package fv, from the sources. The tests import the package, and images.py of this folder.
@@ -50,9 +51,9 @@ refuses() { # WHAT COMMAND..
 # Checks that a command without the library, or with a full output, reports this and ends with status 4.
 fails_clearly() { # COMMAND..
     local name=${1##*/}
-    expect 4 "$name: /missing/libfv.so.2: cannot open shared object file: No such file or directory. The library libfv and\
- its package for Python are needed: clib/build makes them in the repository, and \`make install-lib\` or \`pip install\
- ./clib/python\` installs them. LIBFV may name the shared object." env LIBFV=/missing/libfv.so.2 "$@"
+    expect 4 "$name: /missing/libfv.so.2: cannot open shared object file: No such file or directory. The library libfv is\
+ needed. It is in the Debian packages and in the wheel of a release, and clib/build makes it in a clone that has the kit\
+ (docs/INSTALL.md). LIBFV may name the shared object." env LIBFV=/missing/libfv.so.2 "$@"
     expect 4 "$name: [Errno 28] No space left on device" bash -c '"$@" > /dev/full' '' "$@"
 }
 
