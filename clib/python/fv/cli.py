@@ -36,8 +36,8 @@ from .shown import printable
 
 DONE, OTHER, REJECTED, WRONG_WORDS, FAILED = range(5)
 HELP = (
-    "The library libfv is needed. It is in the Debian packages and in the wheel of a release, and clib/build makes it in"
-    " a clone that has the kit (docs/INSTALL.md). LIBFV may name the shared object."
+    "The library libfv is needed. It is in the Debian packages and in the wheel of a release, and clib/build makes it"
+    " in a clone that has the kit (docs/INSTALL.md). LIBFV may name the shared object."
 )
 MOST_MEMORY = 4 << 30  # bytes that the process may take
 STEP = 1 << 20  # bytes that are read from a pipe at a time
