@@ -2,9 +2,9 @@
 """Runs the commands of README.md over made images, with each engine that is installed, and kills a worker, a job or a
 machine with SIGKILL in the middle. Each image must then have exactly one line, with the result that it was made for:
 no line is lost, and no line occurs twice. A run that is killed cannot have ended before: one of its images is a pipe of
-this script with nothing in it, and becomes a file only afterwards. An engine that is not installed is skipped. `test` runs this
-script, with the environment that it needs. By default there are 1,000 small images. With --images 10000 they are
-larger. The Slurm test then kills a machine, and waits until Slurm gives its task to the other machine, which takes
+this script with nothing in it, and becomes a file only afterwards. An engine that is not installed is skipped. `test`
+runs this script, with the environment that it needs. By default there are 1,000 small images. With --images 10000 they
+are larger. The Slurm test then kills a machine, and waits until Slurm gives its task to the other machine, which takes
 three minutes."""
 
 from __future__ import annotations
