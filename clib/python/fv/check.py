@@ -3,7 +3,7 @@
 
     0	0 canonical	/images/a.fd
     1	4096 canonical, 266240 not canonical	/images/b.fd
-    2	0 fault 15 at 91	/images/c.fd
+    2	0 fault 11 at 72	/images/c.fd
 
 Each verdict follows the offset of its volume. The offset of a fault counts from the first byte of the volume. The
 greatest status of the volumes is the status of the image: 0 means canonical, 1 not canonical, 2 rejected. A volume with
