@@ -4,7 +4,6 @@
 # check a run. A test sources this file and ends with `tried`. It works in a scratch folder, and writes nothing beside
 # the sources.
 set -euo pipefail
-unset CDPATH # with it, cd writes the folder
 recipes=$(cd "$(dirname "${BASH_SOURCE[0]}")" && pwd)
 export FVTOOL=${FVTOOL:-$recipes/../crates/fv_tool/out/fv_tool} PYTHONDONTWRITEBYTECODE=1 LC_ALL=C
 # The commands of the Python package fv, from the sources. The tests import the package, and images.py of this folder.
