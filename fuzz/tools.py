@@ -204,8 +204,8 @@ def check_shown(data: bytes, image: images.Content) -> None:
     lines = [*unpack.table(entries, True), *text.shown(data, True), *text.shown(data, False), *rows]
     require(all(is_shown(line.replace("\t", "").rstrip("\n")) for line in lines), "a line")
     sbom.bill("image", data, entries)
-    drawing = drawing_of("image", image, 1000)
-    require(draw(drawing, drawing, NAMES).endswith("</html>\n"), "no whole page")
+    drawing = drawing_of("image", image, NAMES, 1000)
+    require(draw(drawing, drawing).endswith("</html>\n"), "no whole page")
 
 
 def check_same(data: bytes, other: bytes | None, changed: bytes) -> None:
