@@ -3,8 +3,8 @@
 # Shared code of .ci/run and .ci/quick: runs checks, and counts which of them passed or failed, and what they skipped.
 #
 # A check has passed if it ends with status 0. With status 77 it has tried nothing, so it has neither passed nor failed.
-# With any other status it has failed. Each line `NAME: skipped: WHAT, WHY` in the output of a check counts as one skipped
-# thing, whether or not the check has passed. Status 77 without such a line counts as one skipped thing too.
+# With any other status it has failed. Each line `NAME: skipped: WHAT, WHY` in the output of a check counts as one
+# skipped thing, whether or not the check has passed. Status 77 without such a line counts as one skipped thing too.
 # shellcheck source=.ci/skipping.bash
 source "$(dirname "${BASH_SOURCE[0]}")/skipping.bash"
 passed=0
@@ -44,8 +44,8 @@ skip_check() { # NAME WHY
     skips+=("$1: all of it, $2")
 }
 
-# Runs a check, shows its output, and counts it. The checks run with a variable CDPATH, as some people have it: then `cd`
-# writes the name of the folder, and a script that reads this output must be prepared for it.
+# Runs a check, shows its output, and counts it. The checks run with a variable CDPATH, as some people have it: then
+# `cd` writes the name of the folder, and a script that reads this output must be prepared for it.
 try() { # NAME COMMAND..
     CDPATH=. "${@:2}" | tee "$outputs/$1"
     count "$1" "${PIPESTATUS[0]}" "$outputs/$1"

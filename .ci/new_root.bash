@@ -5,7 +5,7 @@
 # Makes a root by debootstrap from Debian's mirror, with the packages. Fails if no root can be made here, and prints the
 # line which says that WHAT is skipped.
 make_root() { # WHAT SUITE FOLDER [PACKAGE..]
-    local said mirror=http://deb.debian.org/debian include=()
+    local said mirror=http://deb.debian.org/debian options=()
     if [[ $(id -u) != 0 ]]; then
         skip "$1" "not run by root"
         return 1
@@ -15,8 +15,9 @@ make_root() { # WHAT SUITE FOLDER [PACKAGE..]
         skip "$1" "no mirror of $2"
         return 1
     fi
-    if (($# > 3)); then include=("--include=$(IFS=,; echo "${*:4}")"); fi
-    if ! said=$(timeout 900 debootstrap --force-check-gpg --variant=minbase "${include[@]}" "$2" "$3" "$mirror" 2>&1); then
+    if (($# > 3)); then options=("--include=$(IFS=,; echo "${*:4}")"); fi
+    options+=(--force-check-gpg --variant=minbase)
+    if ! said=$(timeout 900 debootstrap "${options[@]}" "$2" "$3" "$mirror" 2>&1); then
         skip "$1" "debootstrap $2: ${said##*$'\n'}"
         return 1
     fi

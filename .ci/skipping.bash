@@ -3,8 +3,8 @@
 # Shared code of the checks and tests: how a check names a thing that it could not try.
 #
 # A check prints one line `NAME: skipped: WHAT, WHY` on standard output for each such thing. It ends with status 0 if
-# everything else was right, and with status $NOTHING_TRIED if it could try nothing at all. .ci/counting.bash counts these
-# lines. A check that runs another script passes on the lines of that script.
+# everything else was right, and with status $NOTHING_TRIED if it could try nothing at all. .ci/counting.bash counts
+# these lines. A check that runs another script passes on the lines of that script.
 export NOTHING_TRIED=77
 
 # Prints the line for a thing that this script could not try.

@@ -22,7 +22,8 @@ cd "$room"
 # that name which is not installed.
 mkdir modules
 ln -s "$recipes/images.py" modules
-export PATH=$recipes/../clib/python/bin:$PATH PYTHONPATH=$recipes/../clib/python:$room/modules${PYTHONPATH:+:$PYTHONPATH}
+export PATH=$recipes/../clib/python/bin:$PATH
+export PYTHONPATH=$recipes/../clib/python:$room/modules${PYTHONPATH:+:$PYTHONPATH}
 python3 "$recipes/images.py" images
 tries=0
 failures=0
