@@ -26,8 +26,9 @@ arguments() { # [--strict]
 
 # Counts a check that has ended and has written its output to a file.
 count() { # NAME STATUS OUTPUT
-    local things
-    mapfile -t things < <(skipped_in "$3")
+    local found things=()
+    found=$(skipped_in "$3")
+    [[ -z $found ]] || mapfile -t things <<< "$found"
     case $2 in
         0) passed=$((passed + 1)) ;;
         "$NOTHING_TRIED") ((${#things[@]})) || things=("all of it, and it gives no reason") ;;
