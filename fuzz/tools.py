@@ -23,11 +23,12 @@ import argparse
 import lzma
 import os
 import random
+import re
 import sys
 import time
 import traceback
 import uuid
-from collections.abc import Callable, Iterator
+from collections.abc import Callable, Iterable, Iterator
 from pathlib import Path
 
 ROOT = Path(__file__).resolve().parents[1]
@@ -122,6 +123,39 @@ def check_content(content: images.Content) -> None:
     for volume in content.volumes:
         check_volume(volume, 0, len(content.data))
     check_sections(content.sections, 0, content.end)
+    check_unread(content)
+
+
+def check_unread(content: images.Content) -> None:
+    """Checks that each gap that is not erased, and each place where a volume is likely to begin, is read or reported.
+    Places in the bodies of sections that may be opened are left out."""
+    gaps = {(it.offset, it.length) for it in content.unread if it.is_gap}
+    shown = {(it.offset, it.length) for it in content.others if len({*it.body}) > 1 or it.body[0] not in (0, 255)}
+    require(gaps == shown, "other gaps", gaps, shown)
+    known = {it.offset for it in content.unread} | {*starts_in(content.every_volume())}
+    packed = [it for it in packed_in(content) if it.is_packed]
+    for found in re.finditer(rb"(?=\0\0\0\0_FVH)", content.data):
+        at = found.start() - 36
+        length, header = int.from_bytes(content.data[at + 32 : at + 36], "little"), content.data[at + 48 : at + 50]
+        is_likely = at >= 0 and at + 56 <= len(content.data) and 56 <= int.from_bytes(header, "little") <= length
+        is_inside = any(it.offset - 56 < at < it.offset + it.length for it in packed)
+        require(not is_likely or at in known or is_inside, "a volume is passed over", at)
+
+
+def starts_in(volumes: Iterable[images.Volume]) -> Iterator[int]:
+    """Yields where volumes, the volumes inside them, and the parts that are not read begin."""
+    for volume in volumes:
+        yield from (volume.offset, *(it.offset for it in volume.unread))
+        for file in volume.files:
+            yield from starts_in(images.volumes_in(file.sections))
+
+
+def packed_in(content: images.Content) -> Iterator[images.Section]:
+    """Yields the sections of the data that are not groups, also those in volumes."""
+    yield from images.leaves(content.sections)
+    for volume in content.every_volume():
+        for file in images.stored_files(volume):
+            yield from images.leaves(file.sections)
 
 
 def check_volume(volume: images.Volume, start: int, end: int) -> None:

@@ -1,7 +1,7 @@
 #!/usr/bin/env python3
 # SPDX-License-Identifier: BSD-2-Clause-Patent
 """opened.py: checks `fv.images` over made images: volumes at every level, compressed sections, volumes with fixed
-files, volumes at odd places, and the limits of reading."""
+files, volumes at odd places, bytes that are not read, and the limits of reading."""
 
 from __future__ import annotations
 
@@ -9,6 +9,7 @@ import lzma
 import struct
 import sys
 import uuid
+import zlib
 from collections.abc import Iterator
 from pathlib import Path
 
@@ -89,15 +90,128 @@ def test_fixed() -> None:
     (volume,) = images.read(made.IMAGES["damaged.fd"]()).volumes[:1]
     assert str(volume.fault) == "fault 11 at 4168" and volume.files == [] and volume.guid is None
     (volume,) = images.read(made.IMAGES["fixed-inside.fv"]()).volumes
-    assert str(volume.fault) == "fault 15 at 191" and volume.files == []
+    inner = volume.files[0].sections[0].volume
+    assert volume.fault is None and volume.is_marked and not volume.fixed and inner and inner.is_marked
+    assert [len(it.fixed) for it in (volume, inner)] == [0, 2] and fv.volume_tree(volume.plain) and inner.plain in volume.plain
 
 
 def test_places() -> None:
-    """Finds volumes that are not at a multiple of 8, if no volume of the image is at a multiple of 8."""
+    """Finds volumes at any byte, also beside volumes at a multiple of 8."""
     found = images.read(bytes(28) + made.volume([made.A]) + made.SMALL).volumes
     assert [it.offset for it in found] == [28, 28 + 0x8000]
-    assert [it.offset for it in images.read(made.volume([made.A]) + bytes(4) + made.SMALL).volumes] == [0]
+    found = images.read(made.volume([made.A]) + bytes(4) + made.SMALL).volumes
+    assert [it.offset for it in found] == [0, 0x8004]
     assert images.read(b"_FVH" * 100_000).volumes == []
+
+
+def test_outermost() -> None:
+    """Finds the volume after a capsule header, although a volume inside it is at a multiple of 8 of the image."""
+    head = uuid.UUID("6dcbd5ed-e82d-4c44-bda1-7194199ad92a").bytes_le + struct.pack("<III", 28, 0, 28 + 0x8000)
+    filler = next(made.pad(bytes(it)) for it in range(8) if not (28 + 72 + 24 + it + -it % 8 + 24 + 4) % 8)
+    image = images.read(head + made.volume([filler, made.NESTED, made.B, made.C]))
+    assert [it.offset for it in image.volumes] == [28]
+    assert [file.name for _, file in images.files_in(image)] == ["", "Alpha", "Beta", "Beta", ""]
+    assert [(it.what, it.is_gap, it.offset, it.length) for it in image.unread] == [("capsule header", True, 0, 28)]
+
+
+def unread_in(data: bytes) -> list[tuple[str, str]]:
+    """Returns what is not read in an image outside of its volumes and then in its volumes, and why."""
+    image = images.read(data)
+    parts = [*image.unread, *(part for volume in image.every_volume() for part in volume.unread)]
+    assert all(it.data is image.data for it in parts)
+    return [(it.what, it.reason) for it in parts]
+
+
+def changed(data: bytes, at: int, *values: int) -> bytes:
+    """Returns data with other bytes at a place."""
+    return data[:at] + bytes(values) + data[at + len(values) :]
+
+
+def test_headers() -> None:
+    """Reports each volume that is not read: beside a volume, in a pad, a raw file, a section or a rejected volume."""
+    other = made.volume([made.A])
+    one = changed(other, 50, other[50] ^ 1)
+    cases = [(one, "volume", "fault 6 at 32818"), (changed(other, 55, 1), "volume of revision 1", "fault 4 at 32823")]
+    ffs1 = uuid.UUID("7a9354d9-0468-444a-81ce-0bf617d890df").bytes_le
+    store = uuid.UUID("fff12b8d-7696-4c8b-a985-2747075b4f50").bytes_le
+    cases.append((changed(other, 16, *ffs1), "FFS1 volume", "fault 3 at 32784"))
+    cases.append((changed(other, 16, *store), "variable store", "fault 3 at 32784"))
+    cases.append((other[:0x4000], "volume", "fault 8 at"))
+    for data, what, reason in cases:
+        gap, header = unread_in(made.volume([made.B]) + data)
+        assert gap == ("", "it is in no volume")
+        assert header[0] == what and header[1].startswith(reason), header
+    inner = made.volume([made.A], 0x2000)
+    unread = "it is in bytes that are not read as volumes"
+    for holder in (
+        made.file(made.guid(6), inner),
+        made.file(made.guid(6), made.section(made.RAW, inner), made.FREEFORM),
+        made.file(made.guid(6), made.section(made.VOLUME, inner + b"\xff"), made.VOLUME_IMAGE),
+    ):
+        assert unread_in(made.volume([made.B, holder])) == [("volume", unread)]
+    held = [("pad", "a pad holds bytes"), ("volume", unread)]
+    assert unread_in(made.volume([made.B, made.pad(bytes(8) + inner)])) == held
+    wrong = made.file(made.guid(4), made.noise("d", 777))
+    found = unread_in(made.volume([changed(wrong, 16, wrong[16] ^ 1), made.NESTED]))
+    assert found == [("volume", "it is in a volume that is rejected")]
+    for content, count in ((made.section(made.RAW, inner), 1), (made.section(made.VOLUME, inner), 0)):
+        packed = made.guided(made.CRC32, made.stream(made.ui("Own"), content))
+        (volume,) = images.read(made.volume([made.file(made.guid(1), packed, made.FREEFORM)])).volumes
+        opened = volume.files[0].sections[0].opened
+        assert opened and [(it.what, it.reason) for it in opened.unread] == [("volume", unread)] * count
+        assert volume.unread == []
+
+
+def test_remains() -> None:
+    """Reports pads that hold bytes, and files that are deleted, unfinished or superseded."""
+    assert unread_in(made.volume([made.A, made.pad(bytes(9)), made.B, made.pad(b"\xff" * 9)])) == []
+    assert unread_in(made.volume([made.pad(b"_FIT_   " + bytes(9))])) == [
+        ("pad", "a pad holds bytes: firmware interface table")
+    ]
+    (part,) = images.read(made.flash(made.volume([made.A, made.GONE, made.B]))).volumes[0].unread
+    assert (part.what, part.guid, part.body[24:801]) == ("deleted file", made.guid(4), made.noise("d", 777))
+    begun = made.file(made.guid(4), made.noise("d", 777), state=0x03)
+    assert [it[0] for it in unread_in(made.volume([made.A, begun, made.B]))] == ["unfinished file"]
+    before = made.file(made.guid(2), made.noise("b", 50), state=0x0F)
+    assert [it[0] for it in unread_in(made.volume([made.A, before, made.B]))] == ["superseded file"]
+    filled = made.C[:-1] + b"\1"
+    assert unread_in(made.volume([filled, made.B])) == [("filler", "bytes between two files")]
+    named = made.volume([made.B], name=made.guid(9))
+    assert unread_in(named) == [] and unread_in(changed(named, 72, *b"hidden")) == []
+    for gap in (bytes(64), b"\xff" * 64):
+        assert unread_in(gap + made.SMALL + gap) == []
+    assert unread_in(b"A" * 64 + made.SMALL) == [("", "it is in no volume")]
+    descriptor = b"\xff" * 16 + b"\x5a\xa5\xf0\x0f" + bytes(4076)
+    assert unread_in(descriptor + made.SMALL) == [("flash descriptor", "it is in no volume")]
+
+
+def test_doubts() -> None:
+    """Opens a section whose checksum is wrong or whose data have bytes after their end, and says so."""
+    text = made.ui("Text")
+    whole = made.guided(made.LZMA, lzma.compress(text, format=lzma.FORMAT_ALONE))
+    sum_of = struct.pack("<I", zlib.crc32(text))
+    cases = [
+        (whole, []),
+        (made.guided(made.LZMA, lzma.compress(text, format=lzma.FORMAT_ALONE) + bytes(9)), []),
+        (made.guided(made.LZMA, lzma.compress(text, format=lzma.FORMAT_ALONE) + b"more"), ["4 bytes follow the packed data"]),
+    ]
+    for stored, doubts in ((sum_of, []), (bytes(4), ["the CRC32 is wrong"])):
+        head = made.CRC32.bytes_le + struct.pack("<HH", 28, 1) + stored
+        cases.append((made.section(made.GUIDED, head + text), doubts))
+    for length in (len(text), 5):
+        wrong = ["the contents have another length than the header says"] * (length == 5)
+        cases.append((made.section(0x01, struct.pack("<IB", length, 0) + text), wrong))
+    for packed, doubts in cases:
+        (file,) = images.read(made.volume([made.file(made.guid(1), packed, made.FREEFORM)])).volumes[0].files
+        assert file.sections[0].opened and file.sections[0].opened.doubts == doubts and file.name == "Text"
+
+
+def test_inputs() -> None:
+    """Reads any buffer, and does not show the bytes of an image in its repr."""
+    data = made.firmware()
+    image = images.read(bytearray(data))
+    assert image == images.read(memoryview(data)) == images.read(data) and len(repr(image)) < 20_000
+    assert images.read(made.volume([made.driver(made.guid(1), "N" * 300, b"")])).volumes[0].files[0].name == "N" * 200 + ".."
 
 
 def test_limits() -> None:
@@ -109,7 +223,13 @@ def test_limits() -> None:
     assert closed_in(data, Limits(section=1000))[0] == "LZMA: more than 1000 bytes"
     assert closed_in(data, Limits(total=len(data) + 100))[0] == f"more than {len(data) + 100} bytes"
     assert closed_in(data, Limits(parts=20))[0] == "more than 20 parts"
-    for limits in (Limits(total=len(data) - 1), Limits(parts=2)):
+    heads = made.SMALL[:72] * 20
+    for data, limits in (
+        (data, Limits(total=len(data) - 1)),
+        (data, Limits(parts=2)),
+        (heads, Limits(signatures=19)),
+        (heads, Limits(wasted=72 * 19)),
+    ):
         try:
             images.read(data, limits)
         except Full:
@@ -142,7 +262,7 @@ def test_tiano() -> None:
         guided = made.guided(uuid.UUID("a31280ad-481e-41b6-95e8-127f4c984779"), packed)
         found = names_of(made.volume([made.file(made.guid(1), guided, made.FREEFORM)]))
         assert found == ["Old"] * (width == 5)
-        assert closed_in(packed_file(head + packed), Limits(slow=5000)) == ["more than 5000 bytes of slow compression"]
+        assert closed_in(packed_file(head + packed), Limits(slow=4200)) == ["more than 4200 symbols of slow compression"]
         for wrong in (packed[:7], packed[:-20], packed[:8] + made.noise("tiano", 300)):
             assert closed_in(packed_file(head + wrong))[0].startswith("compression: ")
     assert closed_in(packed_file(b"\0\0\0\0")) == ["no compression header"]
@@ -175,8 +295,8 @@ def test_names() -> None:
 
 def main() -> None:
     """Runs the tests."""
-    tests = [test_levels, test_bytes, test_fixed, test_places, test_limits, test_waste, test_tiano, test_brotli]
-    tests.append(test_names)
+    tests = [test_levels, test_bytes, test_fixed, test_places, test_outermost, test_headers, test_remains, test_doubts]
+    tests += [test_inputs, test_limits, test_waste, test_tiano, test_brotli, test_names]
     for test in tests:
         test()
     print(f"fv.images: {len(tests)} tests")

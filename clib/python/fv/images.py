@@ -13,23 +13,40 @@ which is not proved. An image is not trusted, so `fv.limits` limits how much of 
 from __future__ import annotations
 
 import contextlib
+import functools
 import uuid
-from collections.abc import Iterable, Iterator, Sequence
+from collections.abc import Generator, Iterable, Iterator, Sequence
 from dataclasses import dataclass, field, replace
+from typing import TypeVar
 
 from . import names
-from ._calls import header_read, image_scan, volume_tree, volume_unfix
+from ._calls import header_read, volume_cells, volume_tree, volume_unfix
 from ._errors import Fault, FaultError
-from ._native import FaultCode, NodeKind
+from ._library import Buffer
+from ._native import CellKind, FaultCode, NodeKind
 from ._types import Node
 from .limits import Budget, Full, Limits
-from .opened import PACKED, Closed, Way, frames, open_section
+from .opened import OUT_OF_MEMORY, PACKED, Closed, Way, frames, is_erased, open_section
 
-SIGNATURE, SIGNATURE_AT = b"_FVH", 40  # the signature in the header of a volume
-LONGEST_HEADER = 1 << 16  # bytes of the header of a volume
+# In the header of a volume: GUID of the file system, FvLength (its upper half is 0), the signature, HeaderLength.
+SYSTEM_AT, LENGTH_AT, SIGNATURE_AT, HEADER_LENGTH_AT, EXTENDED_OFFSET_AT, REVISION_AT = 16, 32, 40, 48, 52, 55
+SIGNATURE, BEFORE_SIGNATURE = b"\0\0\0\0_FVH", 4  # with the upper half of FvLength
+SHORTEST_HEADER, REVISION = 56, 2  # bytes of the header of a volume, and its revision
+EXTENDED_LENGTH_AT = 16  # in the extended header
+FILE_TYPE_AT, PAD_HEADER = 18, 24  # in the header of a file, and the bytes of the header of a pad file
+HEAD = 64  # bytes that show what lies outside of volumes
 FIXED, ATTRIBUTES_AT = 0x04, 19  # the attribute of a file that may not be moved; where a file header has the attributes
 SYSTEMS = {2: "FFS2", 3: "FFS3"}
-LONGEST_TEXT = 4096  # characters of a text that are read
+LONGEST_TEXT = 200  # characters of a text that are read
+REMAINS = {
+    CellKind.FILE: ("superseded file", "another file took its place"),
+    CellKind.DELETED: ("deleted file", "it was deleted"),
+    CellKind.UNFINISHED: ("unfinished file", "it was never finished"),
+    CellKind.PAD: ("pad", "a pad holds bytes"),
+}
+
+
+Found = TypeVar("Found", bound="Content")
 
 
 @dataclass
@@ -51,8 +68,8 @@ class Part:
 @dataclass
 class Unread(Part):
     """Bytes whose contents are not read: what they are, in words (such as `pad`, `deleted file`, `variable store`), and
-    the reason why they are not read. `guid` is the GUID of a file, or of the file system of a volume. A gap is a stretch
-    of bytes that is in no volume and in no section."""
+    the reason why they are not read. `guid` is the GUID of a file, or of the file system of a volume. A gap is a
+    stretch of bytes that is in no volume and in no section."""
 
     what: str
     reason: str
@@ -65,10 +82,10 @@ class Volume(Part):
     """A volume: FvName (None if it has no name), the number of its file system, and its files. A rejected volume has
     its fault, and no files.
 
-    libfv rejects a volume that has files marked as fixed. This module reads the volume without their marks, and sets
-    `is_marked`. All bytes and attributes here are as stored, so they have the marks. `unread` are the bytes of the
-    volume that are not erased and whose contents are not read, in order: pads, superseded, deleted and unfinished
-    files, and bytes that look like the header of a further volume."""
+    libfv rejects a volume that has files marked as fixed, also inside it. This module reads the volume without their
+    marks, and sets `is_marked`. All bytes and attributes here are as stored, so they have the marks. `unread` are the
+    bytes of the volume that are not erased and whose contents are not read, in order: pads, fillers, superseded,
+    deleted and unfinished files, and bytes that look like the header of a further volume."""
 
     guid: uuid.UUID | None = None
     system: int = 0
@@ -80,7 +97,7 @@ class Volume(Part):
     @property
     def plain(self) -> bytes:
         """Returns the bytes of the volume without the marks of fixed files. libfv reads these bytes."""
-        return volume_unfix(self.body) if self.is_marked else self.body
+        return _unmarked(self.body) if self.is_marked else self.body
 
     @property
     def fixed(self) -> list[File]:
@@ -113,14 +130,15 @@ class File(Part):
         """Returns the name of the type."""
         return names.type_name(self.kind, names.FILES)
 
-    @property
+    @functools.cached_property
     def name(self) -> str:
-        """Returns the readable name: the first text of a user interface section that is not empty."""
+        """Returns the readable name: the first text of a user interface section that is not empty. It is looked for
+        once, so the sections must have been opened before."""
         return first_text(self.sections, names.UI)
 
-    @property
+    @functools.cached_property
     def version(self) -> str:
-        """Returns the first text of a version section that is not empty."""
+        """Returns the first text of a version section that is not empty. It is looked for once."""
         return first_text(self.sections, names.VERSION)
 
 
@@ -148,10 +166,12 @@ class Section(Part):
 
     @property
     def text(self) -> str:
-        """Returns the text of a user interface section or a version section, at most LONGEST_TEXT characters of it."""
+        """Returns the text of a user interface section or a version section. Two dots take the place of what follows
+        LONGEST_TEXT characters."""
         start = 2 if self.kind == names.VERSION else 0  # after the build number
-        body = self.data[self.offset + start : self.offset + min(self.length, start + 2 * LONGEST_TEXT)]
-        return body[: len(body) & ~1].decode("utf-16-le", "surrogatepass").split("\0")[0]
+        body = self.data[self.offset + start : self.offset + min(self.length, start + 2 * LONGEST_TEXT + 2)]
+        found = body[: len(body) & ~1].decode("utf-16-le", "surrogatepass").partition("\0")[0]
+        return found if len(found) <= LONGEST_TEXT else f"{found[:LONGEST_TEXT]}.."
 
 
 @dataclass
@@ -210,6 +230,13 @@ def volumes_in(sections: Iterable[Section]) -> Iterator[Volume]:
     return (it.volume for it in leaves(sections) if it.volume)
 
 
+def _places_read_apart(sections: Iterable[Section]) -> Iterator[tuple[int, int]]:
+    """Yields where the bodies of the sections begin and end whose bytes are read as a volume, or may be opened."""
+    for it in leaves(sections):
+        if it.volume or it.is_packed:
+            yield it.offset, it.offset + it.length
+
+
 def first_text(sections: Iterable[Section], kind: int) -> str:
     """Returns the first text of a section of this type that is not empty, otherwise an empty text."""
     return next(filter(None, (it.text for it in every_leaf(sections) if it.kind == kind)), "")
@@ -220,6 +247,15 @@ def files_in(content: Content) -> Iterator[tuple[Volume, File]]:
     yield from _files_under(content.sections)
     for volume in content.volumes:
         yield from _files_of(volume)
+
+
+def stored_files(volume: Volume) -> Iterator[File]:
+    """Yields the files of a volume and of its nested volumes in the order of their rows in the tree. Files in opened
+    sections are not among them."""
+    for file in volume.files:
+        yield file
+        for inner in volumes_in(file.sections):
+            yield from stored_files(inner)
 
 
 def _files_of(volume: Volume) -> Iterator[tuple[Volume, File]]:
@@ -238,10 +274,11 @@ def _files_under(sections: Iterable[Section]) -> Iterator[tuple[Volume, File]]:
             yield from files_in(section.opened)
 
 
-def read(data: bytes, limits: Limits = Limits()) -> Content:
+def read(data: Buffer, limits: Limits = Limits()) -> Content:
     """Returns the contents of an image, with all sections opened that can be opened. Raises Full if the image exceeds a
-    limit. A section is not opened if only its contents exceed the limit."""
-    reader = Reader(data, limits)
+    limit. A section is not opened if only its contents exceed the limit. An image that is not a bytes object is
+    copied."""
+    reader = Reader(data if isinstance(data, bytes) else bytes(data), limits)
     image = reader.image()
     reader.open_volumes(image.volumes, 0)
     return image
@@ -256,14 +293,17 @@ class Reader:
 
     def image(self) -> Content:
         """Returns the volumes of the image, with all parts inside them. No section is opened."""
-        return Content(self._data, [], self._volumes(self._data, 0), 0, [])
+        return self._with_unread(Content(self._data, [], self._volumes(self._data, 0), 0, []))
 
     def open_volumes(self, volumes: Iterable[Volume], depth: int) -> None:
         """Opens all sections in volumes, at every level. `depth` is the number of opened sections around them."""
         for volume in volumes:
+            cores = [it for it in volume.files if it.kind == names.SECURITY_CORE and not it.sections]
+            for file in cores:
+                file.sections = self._core_sections(file)
+            if any(True for file in cores for _ in _places_read_apart(file.sections)):
+                self._add_unread(volume)  # these places of the cores are read now
             for file in volume.files:
-                if file.kind == names.SECURITY_CORE and not file.sections:
-                    file.sections = self._core_sections(file)
                 self._open_under(file.sections, depth)
 
     def open_all(self, sections: Iterable[Section], depth: int) -> None:
@@ -284,7 +324,7 @@ class Reader:
         except Full as what:
             section.closed = f"more than {what}"
         except MemoryError:
-            section.closed = "memory ran out"
+            section.closed = OUT_OF_MEMORY
         else:
             self.open_all(section.opened.sections, depth + 1)
 
@@ -309,10 +349,10 @@ class Reader:
         """Returns the contents of a section. Raises Closed or Full if it is not opened."""
         if depth >= self._budget.limits.depth:
             raise Closed("too deep")
-        way, data = open_section(section.kind, section.header_length, section.body, self._budget)
+        way, data, doubts = open_section(section.kind, section.header_length, section.body, self._budget)
         with self._budget.attempt():
             sections, end = self._stream(data, 0, len(data), 0)
-            return Opened(data, sections, self._volumes(data, end), end, [], way, [])
+            return self._with_unread(Opened(data, sections, self._volumes(data, end), end, [], way, doubts))
 
     def _stream(self, data: bytes, start: int, end: int, depth: int) -> tuple[list[Section], int]:
         """Returns the sections in some bytes, and the offset at which the last one ends, with its filler."""
@@ -321,45 +361,93 @@ class Reader:
             self._budget.count(1)
             section = Section(data, frame.body, frame.end - frame.body, frame.kind, frame.body - frame.start)
             if frame.kind == names.VOLUME:
-                section.volume = self._volume(data, frame.body, section.length, False)
-            elif frame.kind == names.GROUP and depth < self._budget.limits.depth:
-                section.sections, _ = self._stream(data, frame.body, frame.end, depth + 1)
+                section.volume = self._volume(data, frame.body, section.length)
+            elif frame.kind == names.GROUP and depth == self._budget.limits.depth:
+                section.closed = "too deep"
+            elif frame.kind == names.GROUP:
+                section.sections, last = self._stream(data, frame.body, frame.end, depth + 1)
+                section.closed = "" if is_erased(data, last, frame.end) else f"{frame.end - last} bytes are no sections"
             sections.append(section)
             start = min(frame.end + (frame.start - frame.end) % 4, end)
         return sections, start
 
     def _volumes(self, data: bytes, start: int) -> list[Volume]:
-        """Returns the volumes in some data, from an offset on. They may have fixed files."""
-        headers = image_scan(memoryview(data)[start:])
-        # One by one, because there may be very many: at the limit of parts, this ends.
-        places = ((start + it.offset, it.length) for it in headers) if headers else self._odd_places(data, start)
-        return [self._volume(data, at, length, True) for at, length in places]
-
-    def _odd_places(self, data: bytes, start: int) -> Iterator[tuple[int, int]]:
-        """Yields the offsets and lengths of the volumes in data that have no volume at a multiple of 8, such as a
-        volume after a capsule header of 28 bytes."""
+        """Returns the volumes in some data, from an offset on. A volume may begin at any byte that is in no volume before
+        it, and may have fixed files."""
+        found: list[Volume] = []
         at = start
-        while (found := data.find(SIGNATURE, at + SIGNATURE_AT)) >= 0 and self._budget.may_try():
-            begin = found - SIGNATURE_AT
-            self._budget.waste(LONGEST_HEADER)
+        while (begin := self._next_header(data, at, len(data))) is not None:
             at = begin + 1
-            with contextlib.suppress(FaultError):
-                length = header_read(memoryview(data)[begin:]).length
+            if not self._header_fault(data, begin, len(data)):
+                length = _number(data, begin + LENGTH_AT, 8)
+                found.append(self._volume(data, begin, length))
                 at = begin + length
-                yield begin, length
+        return found
 
-    def _volume(self, data: bytes, offset: int, length: int, may_be_fixed: bool) -> Volume:
-        """Returns the volume at these bytes, with all parts inside it. Unless its files may be fixed, a volume with
-        fixed files is rejected."""
+    def _next_header(self, data: bytes, start: int, end: int) -> int | None:
+        """Returns the first place at which the header of a volume may begin: the signature, and lengths that may be
+        right. The volume may be longer than the data."""
+        at = start + SIGNATURE_AT - BEFORE_SIGNATURE
+        while (found := data.find(SIGNATURE, at, end)) >= 0:
+            self._budget.look()
+            begin, at = found + BEFORE_SIGNATURE - SIGNATURE_AT, found + 1
+            length = _number(data, begin + LENGTH_AT, 8)
+            header = _number(data, begin + HEADER_LENGTH_AT, 2)
+            if SHORTEST_HEADER <= header <= length and begin + SHORTEST_HEADER <= end:
+                return begin
+        return None
+
+    def _header_fault(self, data: bytes, begin: int, end: int) -> Fault | None:
+        """Returns the fault of a header, or None if it has none. Its block map may be long."""
+        self._budget.read_again(_number(data, begin + HEADER_LENGTH_AT, 2))
+        try:
+            header_read(memoryview(data)[begin:end])
+        except FaultError as error:
+            return replace(error.fault, offset=begin + error.fault.offset)
+        return None
+
+    def _with_unread(self, content: Found) -> Found:
+        """Adds the gaps that are not erased, and the headers of volumes that are not read."""
+        gaps = [_gap(it) for it in content.others if not is_erased(it.data, it.offset, it.offset + it.length)]
+        places = [*_places_read_apart(content.sections), *((it.offset, it.offset + it.length) for it in content.volumes)]
+        headers = self._headers_between(content.data, 0, places, len(content.data))
+        content.unread = sorted([*gaps, *headers], key=lambda it: it.offset)
+        return content
+
+    def _headers_between(self, data: bytes, start: int, places: list[tuple[int, int]], end: int) -> Iterator[Unread]:
+        """Yields the headers of volumes that are not read between two offsets, but not at these places."""
+        starts, ends = [start, *(after for _, after in places)], [*(at for at, _ in places), end]
+        for at, before in zip(starts, ends):
+            yield from self._headers(data, at, before, "it is in bytes that are not read as volumes")
+
+    def _headers(self, data: bytes, start: int, end: int, otherwise: str) -> Iterator[Unread]:
+        """Yields the places at which the header of a volume may begin, with its fault, or with another reason why the
+        volume is not read."""
+        at = start
+        while (begin := self._next_header(data, at, end)) is not None:
+            at = begin + 1
+            self._budget.count(1)
+            fault = self._header_fault(data, begin, end)
+            reason = f"{fault}: {fault.text}" if fault else otherwise
+            length = _number(data, begin + LENGTH_AT, 8)
+            guid = uuid.UUID(bytes_le=data[begin + SYSTEM_AT : begin + LENGTH_AT])
+            what = _what_volume(guid, data[begin + REVISION_AT])
+            yield Unread(data, begin, min(length, end - begin), what, reason, guid)
+
+    def _volume(self, data: bytes, offset: int, length: int) -> Volume:
+        """Returns the volume at these bytes, with all parts inside it."""
         body = memoryview(data)[offset : offset + length]
         try:
-            rows, is_marked = _tree_of(body) if may_be_fixed else (volume_tree(body), False)
+            rows = _tree_of(body)
         except FaultError as error:
             self._budget.count(1)
             # The codes before this one are the faults of headers.
             name = header_read(body).name if error.fault.code >= FaultCode.FILE_STATE else None
             fault = replace(error.fault, offset=offset + error.fault.offset)
-            return Volume(data, offset, length, name, fault=fault)
+            rejected = Volume(data, offset, length, name, fault=fault)
+            inside = "it is in a volume that is rejected"
+            rejected.unread = list(self._headers(data, offset + SHORTEST_HEADER, offset + length, inside))
+            return rejected
         self._budget.count(len(rows))
         parts: list[Part] = []
         for row in rows:
@@ -368,19 +456,116 @@ class Reader:
                 _hold(parts[row.parent], parts[-1])
         volume = parts[0]
         assert isinstance(volume, Volume)
-        volume.is_marked = is_marked
+        _find_marks(volume)
+        self._add_unread(volume)
         return volume
 
+    def _add_unread(self, volume: Volume) -> None:
+        """Adds the bytes of a volume whose contents are not read, and does the same for the volumes inside it."""
+        remains = list(_remains(volume))
+        self._budget.count(len(remains))
+        for inner in (it for file in volume.files for it in volumes_in(file.sections)):
+            self._add_unread(inner)
+        places = [place for file in volume.files for place in _places_read_apart(file.sections)]
+        start, end = volume.offset + SHORTEST_HEADER, volume.offset + volume.length
+        headers = self._headers_between(volume.data, start, places, end)
+        volume.unread = sorted([*remains, *headers], key=lambda it: it.offset)
 
-def _tree_of(volume: memoryview) -> tuple[Sequence[Node], bool]:
-    """Returns the tree of a volume, and whether the volume was read without the marks of its fixed files. Files of
-    nested volumes keep their marks, so a volume with a fixed file in a nested volume is rejected."""
+
+def _gap(part: Part) -> Unread:
+    """Returns bytes that are in no volume and in no section, with what they are if that is known."""
+    what = names.what_begins(part.data[part.offset : part.offset + HEAD])
+    return Unread(part.data, part.offset, part.length, what, "it is in no volume", is_gap=True)
+
+
+def _what_volume(system: uuid.UUID, revision: int) -> str:
+    """Returns what a volume is that is not read, by the GUID of its file system and the revision of its header."""
+    if system in names.FILE_SYSTEMS:
+        return names.FILE_SYSTEMS[system]
+    return "volume" if revision == REVISION else f"volume of revision {revision}"
+
+
+def _remains(volume: Volume) -> Iterator[Unread]:
+    """Yields the pads and fillers of a volume that hold bytes, and its files that are not valid."""
+    data, start = volume.data, volume.offset
+    valid = {it.offset - it.header_length - start for it in volume.files}
+    after = yield from _around_extended_header(volume)
+    for cell in volume_cells(volume.plain):
+        at, end = start + cell.offset, start + cell.offset + cell.length
+        if not is_erased(data, after, at):
+            yield Unread(data, after, at - after, "filler", "bytes between two files")
+        after = end
+        what, reason = REMAINS.get(cell.kind, ("", ""))
+        if cell.kind == CellKind.PAD:
+            at += cell.header_length or 0
+            if not is_erased(data, at, end):
+                known = names.what_begins(data[at : at + HEAD])
+                yield Unread(data, at, end - at, what, f"{reason}: {known}" if known else reason)
+        elif what and cell.offset not in valid:
+            yield Unread(data, at, end - at, what, reason, uuid.UUID(bytes_le=data[at : at + 16]))
+    if not is_erased(data, after, start + volume.length):
+        yield Unread(data, after, start + volume.length - after, "filler", "bytes after the last file")
+
+
+def _around_extended_header(volume: Volume) -> Generator[Unread, None, int]:
+    """Yields the bytes before the extended header of a volume if they hold more than the header of a pad file. Returns
+    where its header ends."""
+    data, start = volume.data, volume.offset
+    length, at = (_number(data, start + it, 2) for it in (HEADER_LENGTH_AT, EXTENDED_OFFSET_AT))
+    if not at:
+        return start + length
+    first, end = start + length, start + at
+    if end - first >= PAD_HEADER and data[first + FILE_TYPE_AT] == names.PAD_FILE:
+        first += PAD_HEADER
+    if not is_erased(data, first, end):
+        yield Unread(data, first, end - first, "pad", "bytes before the extended header")
+    return end + _number(data, end + EXTENDED_LENGTH_AT, 4)
+
+
+def _number(data: bytes, at: int, size: int) -> int:
+    """Returns the number in some bytes at a place."""
+    return int.from_bytes(data[at : at + size], "little")
+
+
+def _tree_of(volume: memoryview) -> Sequence[Node]:
+    """Returns the tree of a volume without the marks of fixed files."""
     try:
-        return volume_tree(volume), False
+        return volume_tree(volume)
     except FaultError as error:
-        if error.fault.code != FaultCode.FIXED or error.fault.depth:
+        if error.fault.code != FaultCode.FIXED:
             raise
-    return volume_tree(volume_unfix(volume)), True
+    return volume_tree(_unmarked(volume))
+
+
+def _unmarked(volume: bytes | memoryview) -> bytes:
+    """Returns a volume without the marks of fixed files, also of those in its nested volumes. libfv removes the marks of
+    one volume. The bytes of a file header keep their sum, so the checksums of the files around it stay right."""
+    whole = bytearray(volume_unfix(volume))
+    places = [(0, len(whole))]
+    for start, end in places:
+        for at, after in _nested_places(bytes(whole[start:end])):
+            with contextlib.suppress(FaultError):  # it is rejected with the volume around it
+                whole[start + at : start + after] = volume_unfix(whole[start + at : start + after])
+                places.append((start + at, start + after))
+    return bytes(whole)
+
+
+def _nested_places(volume: bytes) -> Iterator[tuple[int, int]]:
+    """Yields where the volumes in the sections of a volume begin and end. No file of the volume is marked fixed."""
+    for cell in volume_cells(volume):
+        if cell.kind == CellKind.FILE and cell.efi_type != names.RAW_FILE:
+            streams = [(cell.offset + (cell.header_length or 0), cell.offset + cell.length)]
+            for start, end in streams:
+                found = list(frames(volume, start, end))
+                streams += [(it.body, it.end) for it in found if it.kind == names.GROUP]
+                yield from ((it.body, it.end) for it in found if it.kind == names.VOLUME)
+
+
+def _find_marks(volume: Volume) -> bool:
+    """Notes for a volume, and for each volume inside it, whether a file in it is marked fixed."""
+    inner = [_find_marks(it) for file in volume.files for it in volumes_in(file.sections)]
+    volume.is_marked = bool(volume.fixed) or any(inner)
+    return volume.is_marked
 
 
 def _part(row: Node, data: bytes, start: int) -> Part:

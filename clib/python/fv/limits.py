@@ -11,16 +11,22 @@ from dataclasses import dataclass
 
 @dataclass(frozen=True)
 class Limits:
-    """The limits for one image."""
+    """The limits for one image. A small image may hold less than a large one: `least` bytes and `times` its own length,
+    and `slow_least` symbols and `slow_times` its own length, as far as the other limits allow."""
 
     total: int = 1 << 30  # bytes of the image and of all opened contents
+    least: int = 1 << 27
+    times: int = 32
     section: int = 1 << 28  # bytes that one section holds
-    slow: int = 1 << 25  # bytes in all sections that Python itself has to unpack
+    slow: int = 1 << 25  # symbols in all sections that Python itself has to unpack
+    slow_least: int = 1 << 21
+    slow_times: int = 8
     wasted: int = 1 << 30  # bytes that are unpacked or read, but not kept
     sections: int = 1_000  # sections that are opened
     parts: int = 100_000  # volumes, files and sections
     depth: int = 8  # opened sections inside one another, and groups inside one another
     memory: int = 1 << 29  # bytes of memory for a decoder of LZMA
+    signatures: int = 1_000_000  # places that look like the signature of a volume
 
     @property
     def tried(self) -> int:
@@ -38,16 +44,19 @@ class Budget:
 
     def __init__(self, limits: Limits, size: int) -> None:
         self.limits = limits
-        self._left = limits.total
-        self._slow = limits.slow
+        self._total = max(size, min(limits.total, size + limits.least + limits.times * size))
+        self._left = self._total
+        self._most_slow = self._slow = min(limits.slow, limits.slow_least + limits.slow_times * size)
         self._wasted = limits.wasted
-        self._parts = self._tried = self._sections = 0
+        self._parts = self._tried = self._sections = self._signatures = 0
+        if size > limits.total:
+            raise Full(f"{limits.total} bytes")
         self.keep(size)
 
     def check(self, count: int) -> None:
         """Checks that this many bytes may be kept."""
         if count > self._left:
-            raise Full(f"{self.limits.total} bytes")
+            raise Full(f"{self._total} bytes")
 
     def keep(self, count: int) -> None:
         """Takes bytes of the image, or of the contents of a section."""
@@ -59,11 +68,23 @@ class Budget:
         left."""
         self._wasted -= count
 
+    def read_again(self, count: int) -> None:
+        """Takes bytes that are read at a place where a volume may begin."""
+        self.waste(count)
+        if self._wasted < 0:
+            raise Full(f"{self.limits.wasted} bytes that are not kept")
+
     def work(self, count: int) -> None:
-        """Takes bytes that Python itself unpacks."""
+        """Takes symbols that Python itself unpacks."""
         if count > self._slow:
-            raise Full(f"{self.limits.slow} bytes of slow compression")
+            raise Full(f"{self._most_slow} symbols of slow compression")
         self._slow -= count
+
+    def look(self) -> None:
+        """Takes a place at which a volume may begin."""
+        self._signatures += 1
+        if self._signatures > self.limits.signatures:
+            raise Full(f"{self.limits.signatures} signatures of volumes")
 
     def count(self, parts: int) -> None:
         """Takes parts."""

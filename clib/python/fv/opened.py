@@ -12,6 +12,7 @@ import io
 import lzma
 import struct
 import uuid
+import zlib
 from collections.abc import Callable, Iterator
 from dataclasses import dataclass
 from typing import Any
@@ -23,10 +24,16 @@ from .names import COMPRESSION, GUIDED
 PACKED = (COMPRESSION, GUIDED)  # types of sections that may be opened
 STEP = 1 << 20  # bytes that a decoder unpacks before they are counted
 GUID_HEADER = 20  # bytes of the body before the data: the GUID, DataOffset, attributes
+CRC32_AT = GUID_HEADER  # where the body of a CRC32 section has the sum of its data
 COMPRESSION_HEADER = 5  # bytes of the body before the data: the length of the contents, and a type
 BROTLI_HEADER = 16  # bytes before the stream: the length of the contents, and of the memory that EDK II takes
 BROTLI_STEP = 16  # bytes of a stream that are unpacked at a time: Python's brotli does not limit its output
 BROTLI_PIECE = 1 << 24  # bytes that this few bytes may hold
+
+
+# The reasons why a section is not opened that lie in the machine, and not in the image.
+OUT_OF_MEMORY, NO_BROTLI = "memory ran out", "brotli is not installed"
+OF_MACHINE = (OUT_OF_MEMORY, NO_BROTLI)
 
 
 class Closed(Exception):
@@ -44,22 +51,41 @@ class Frame:
 
 
 @dataclass(frozen=True)
+class Packed:
+    """What a section holds before it is opened: the header of its data, which is part of the body, and the data.
+    `doubts` takes the reasons, in words, why the contents may be wrong or incomplete."""
+
+    header: bytes
+    data: bytes
+    doubts: list[str]
+
+
+@dataclass(frozen=True)
 class Way:
     """A way to open a section: its name, the name of the folder for the contents, and a function that yields the
     contents piece by piece."""
 
     name: str
     folder: str
-    unpack: Callable[[bytes, Budget], Iterator[bytes]]
+    unpack: Callable[[Packed, Budget], Iterator[bytes]]
 
 
-def from_stored(data: bytes, _: Budget) -> Iterator[bytes]:
+def from_stored(packed: Packed, _: Budget) -> Iterator[bytes]:
     """Yields data that are not packed."""
-    yield data
+    yield packed.data
 
 
-def from_lzma(data: bytes, budget: Budget) -> Iterator[bytes]:
+def from_crc32(packed: Packed, _: Budget) -> Iterator[bytes]:
+    """Yields the data of a CRC32 section, and compares their sum with the sum in the section."""
+    stored = packed.header[CRC32_AT : CRC32_AT + 4]
+    if stored != zlib.crc32(packed.data).to_bytes(4, "little"):
+        packed.doubts.append("the CRC32 is wrong")
+    yield packed.data
+
+
+def from_lzma(packed: Packed, budget: Budget) -> Iterator[bytes]:
     """Yields the contents of LZMA data."""
+    data = packed.data
     try:
         decoder = lzma.LZMADecompressor(lzma.FORMAT_ALONE, budget.limits.memory)
         while not decoder.eof:
@@ -68,12 +94,19 @@ def from_lzma(data: bytes, budget: Budget) -> Iterator[bytes]:
                 raise Closed("LZMA: the data are cut short")
             yield piece
             data = b""
+        _note_rest(packed, decoder.unused_data)
     except lzma.LZMAError as error:
         budget.waste(STEP)  # the decoder does not say how much of the last piece it had unpacked
         raise Closed(f"LZMA: {error}") from error
 
 
-def from_lzma_of_x86(data: bytes, budget: Budget) -> Iterator[bytes]:
+def _note_rest(packed: Packed, rest: bytes) -> None:
+    """Notes that bytes follow the packed data, unless they are filler."""
+    if not is_erased(rest, 0, len(rest)):
+        packed.doubts.append(f"{len(rest)} bytes follow the packed data")
+
+
+def from_lzma_of_x86(packed: Packed, budget: Budget) -> Iterator[bytes]:
     """Yields the contents of LZMA data, and replaces the addresses in the calls of x86 code by the distances that they
     had before.
 
@@ -83,7 +116,7 @@ def from_lzma_of_x86(data: bytes, budget: Budget) -> Iterator[bytes]:
     filters: list[dict[str, Any]] = [{"id": lzma.FILTER_X86}, {"id": lzma.FILTER_LZMA2, "preset": 0}]
     decoder = lzma.LZMADecompressor(lzma.FORMAT_RAW, filters=filters)
     control = 1
-    for piece in from_lzma(data, budget):
+    for piece in from_lzma(packed, budget):
         for at in range(0, len(piece), 1 << 16):
             chunk = piece[at : at + (1 << 16)]
             yield decoder.decompress(struct.pack(">BH", control, len(chunk) - 1) + chunk)
@@ -91,12 +124,13 @@ def from_lzma_of_x86(data: bytes, budget: Budget) -> Iterator[bytes]:
     yield decoder.decompress(b"\0")
 
 
-def from_brotli(data: bytes, budget: Budget) -> Iterator[bytes]:
+def from_brotli(packed: Packed, budget: Budget) -> Iterator[bytes]:
     """Yields the contents of Brotli data, if Python's module for it is installed."""
+    data = packed.data
     try:
         brotli: Any = importlib.import_module("brotli")
     except ImportError:
-        raise Closed("brotli is not installed") from None
+        raise Closed(NO_BROTLI) from None
     if len(data) < BROTLI_HEADER:
         raise Closed("Brotli: the data are cut short")
     (left,), decoder = struct.unpack_from("<Q", data), brotli.Decompressor()
@@ -106,6 +140,7 @@ def from_brotli(data: bytes, budget: Budget) -> Iterator[bytes]:
             left -= len(piece)
             yield piece
             if decoder.is_finished() or left < 0:
+                _note_rest(packed, data[at + BROTLI_STEP :])
                 break
     except brotli.error as error:
         budget.waste(BROTLI_PIECE)  # the decoder does not say how much of the last piece it had unpacked
@@ -114,13 +149,13 @@ def from_brotli(data: bytes, budget: Budget) -> Iterator[bytes]:
         raise Closed("Brotli: the contents have another length than the header says")
 
 
-def from_compression(data: bytes, budget: Budget, widths: tuple[int, ...]) -> Iterator[bytes]:
+def from_compression(packed: Packed, budget: Budget, widths: tuple[int, ...]) -> Iterator[bytes]:
     """Yields the contents of data with the compression of the UEFI specification, or with Tiano's. Some data fit both.
     Then the contents that are sections are right."""
     found, reasons = [], []
     for width in widths:
         try:
-            found.append(_tiano.unpacked(data, width, budget.work))
+            found.append(_tiano.unpacked(packed.data, width, budget.limits.section, budget.work))
         except _tiano.Damaged as error:
             reasons.append(str(error))
         else:
@@ -140,7 +175,7 @@ COMPRESSIONS = {0: Way("stored", "stored", from_stored), 1: Way("UEFI compressio
 GUIDS = {
     uuid.UUID("ee4e5898-3914-4259-9d6e-dc7bd79403cf"): Way("LZMA", "lzma", from_lzma),
     uuid.UUID("d42ae6bd-1352-4bfb-909a-ca72a6eae889"): Way("LZMA of x86 code", "lzma-x86", from_lzma_of_x86),
-    uuid.UUID("fc1bcdb0-7d31-49aa-936a-a4600d9dd083"): Way("CRC32", "crc32", from_stored),
+    uuid.UUID("fc1bcdb0-7d31-49aa-936a-a4600d9dd083"): Way("CRC32", "crc32", from_crc32),
     uuid.UUID("a31280ad-481e-41b6-95e8-127f4c984779"): Way("Tiano compression", "tiano", _tiano_only),
     uuid.UUID("3d532050-5cda-4fd0-879e-0f7f630d5afb"): Way("Brotli", "brotli", from_brotli),
 }
@@ -148,15 +183,15 @@ GUIDS = {
 OTHERS = {uuid.UUID("a7717414-c616-4977-9420-844712a735bf"): "signed by RSA 2048 and SHA-256"}
 
 
-def open_section(kind: int, header_length: int, body: bytes, budget: Budget) -> tuple[Way, bytes]:
-    """Returns the way to open a section, and its contents. `header_length` is the length of the section header, which
-    the body does not include. Raises Closed if no way is known or the data are damaged, and Full if the budget does not
-    suffice."""
+def open_section(kind: int, header_length: int, body: bytes, budget: Budget) -> tuple[Way, bytes, list[str]]:
+    """Returns the way to open a section, its contents, and the reasons to doubt them. `header_length` is the length of
+    the section header, which the body does not include. Raises Closed if no way is known or the data are damaged, and
+    Full if the budget does not suffice."""
     budget.open()
-    way, data = _compression(body) if kind == COMPRESSION else _guided(header_length, body)
+    way, packed = _compression(body) if kind == COMPRESSION else _guided(header_length, body)
     found = io.BytesIO()  # its bytes are not copied at the end
     try:
-        for piece in way.unpack(data, budget):
+        for piece in way.unpack(packed, budget):
             found.write(piece)
             if found.tell() > budget.limits.section:
                 raise Closed(f"{way.name}: more than {budget.limits.section} bytes")
@@ -165,20 +200,22 @@ def open_section(kind: int, header_length: int, body: bytes, budget: Budget) -> 
         budget.waste(found.tell())
         raise
     budget.keep(found.tell())
-    return way, found.getvalue()
+    if kind == COMPRESSION and found.tell() != int.from_bytes(packed.header[:4], "little"):
+        packed.doubts.append("the contents have another length than the header says")
+    return way, found.getvalue(), packed.doubts
 
 
-def _compression(body: bytes) -> tuple[Way, bytes]:
+def _compression(body: bytes) -> tuple[Way, Packed]:
     """Returns the way and the data of a compression section."""
     if len(body) < COMPRESSION_HEADER:
         raise Closed("no compression header")
     way = COMPRESSIONS.get(body[COMPRESSION_HEADER - 1])
     if way is None:
         raise Closed(f"compression of the unknown type {body[COMPRESSION_HEADER - 1]}")
-    return way, body[COMPRESSION_HEADER:]
+    return way, Packed(body[:COMPRESSION_HEADER], body[COMPRESSION_HEADER:], [])
 
 
-def _guided(header_length: int, body: bytes) -> tuple[Way, bytes]:
+def _guided(header_length: int, body: bytes) -> tuple[Way, Packed]:
     """Returns the way and the data of a GUID-defined section."""
     if len(body) < GUID_HEADER:
         raise Closed("no GUID-defined header")
@@ -189,7 +226,8 @@ def _guided(header_length: int, body: bytes) -> tuple[Way, bytes]:
     way = GUIDS.get(guid)
     if way is None:
         raise Closed(f"{OTHERS.get(guid, 'unknown GUID')} {guid}")
-    return way, body[data_offset - header_length :]
+    start = data_offset - header_length
+    return way, Packed(body[:start], body[start:], [])
 
 
 def frames(data: bytes, start: int, end: int) -> Iterator[Frame]:
@@ -202,6 +240,12 @@ def frames(data: bytes, start: int, end: int) -> Iterator[Frame]:
             return
         yield Frame(kind, start, body, start + size)
         start += size + -size % 4
+
+
+def is_erased(data: bytes, start: int, end: int) -> bool:
+    """Returns whether all bytes at these places are 0x00, or all are 0xFF, or there are none."""
+    first = data[start : min(start + 1, end)]
+    return first in (b"", b"\0", b"\xff") and (not first or data.count(first, start, end) == end - start)
 
 
 def is_stream(data: bytes) -> bool:

@@ -5,13 +5,13 @@
 
 Each volume has the lines of `fvtool list --sums`, without the numbers of files and sections, because an extra file
 would change every line after it. A volume with fixed files is listed without their marks, and the lines say which files
-are fixed. A text of more than 4,096 characters is left out. With --open, compressed sections have lines too. A rejected
+are fixed. A text of more than 200 characters is left out. With --open, compressed sections have lines too. A rejected
 volume, a file without a volume, and an image with more than 100,000 parts are shown by their digests. All bytes outside
 of volumes share one digest. The last argument is the name of the image, even if it begins with a hyphen.
 
 Exit status 0: the lines are written, whatever the image is. 2: the image cannot be read, or has more than 1 GiB. 3: the
-arguments are wrong. 4: the library libfv cannot be used, the output cannot be written, or memory ran out. git stops at
-any status except 0, so nothing wrong gets into its cache."""
+arguments are wrong. 4: the library libfv cannot be used, the output cannot be written, memory ran out, or Brotli data
+need Python's module brotli. git stops at any status except 0, so nothing wrong gets into its cache."""
 
 from __future__ import annotations
 
@@ -27,9 +27,10 @@ from ._calls import volume_tree, volume_tree_digests
 from ._errors import FaultError
 from ._native import NodeKind
 from ._types import Node
-from .images import LONGEST_TEXT, Content, File, Opened, Section, Volume, files_in, leaves
+from .images import LONGEST_TEXT, Content, File, Opened, Section, Volume, files_in, leaves, stored_files
 from .limits import Full
 from .names import GROUP, SUBTYPE, UI, VERSION
+from .opened import OF_MACHINE
 from .shown import indented, quoted
 
 NAME = "fv-text"
@@ -74,9 +75,9 @@ def _list(volume: Volume) -> Iterator[str]:
     counts = Counter(node.parent for node in nodes if node.kind == NodeKind.FILE)
     if volume.fixed:
         yield f"{len(volume.fixed)} of {len(volume.files)} files fixed"
-    files = iter(volume.files)
+    files = stored_files(volume)
     for row, (node, digest) in enumerate(zip(nodes, digests)):
-        file = next(files) if node.depth == 1 else None
+        file = next(files) if node.kind == NodeKind.FILE else None
         ending = f" sha256 {digest.hex()}" if digest else ""
         yield f"{'  ' * node.depth}{_line(node, counts[row], data)}{ending}{_fixed(file)}"
 
@@ -121,6 +122,8 @@ def _packed(section: Section, depth: int) -> Iterator[str]:
     if section.opened:
         yield from indented([f"{section.opened.way.name}:"], depth)
         yield from _opened(section.opened, depth + 1)
+    elif section.closed in OF_MACHINE:  # another machine, or this one later, writes other lines
+        raise OSError(f"a section is not opened: {section.closed}")
     else:
         yield from indented([f"not opened: {section.closed}, {_sum(section.body)}"], depth)
 
@@ -141,7 +144,8 @@ def _sections(sections: Iterable[Section], depth: int) -> Iterator[str]:
         if section.volume:
             yield from indented([line, *indented(_volume(section.volume), 1)], depth)
         elif section.kind == GROUP:
-            yield from indented([line], depth)
+            rest = f" {_sum(section.body)}" if section.closed else ""  # some of its bytes are not in its sections
+            yield from indented([f"{line}{rest}"], depth)
             yield from _sections(section.sections, depth + 1)
         elif section.is_packed:
             yield from indented([line], depth)
