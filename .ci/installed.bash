@@ -48,10 +48,12 @@ tools_work() { # BIN MADE FOLDER [WAY..]
     "${way[@]}" "$bin/fv-unpack" "$made/firmware.fd" "$parts" > "$room/said" || true # a section of it is of an unknown kind
     "${way[@]}" grep '/[0-9]*-Beta/pe32.efi' "$parts/index.tsv" > "$room/said" || fail "fv-unpack: $(< "$room/said")"
     "${way[@]}" rm -r "$parts"
-    "${way[@]}" "$bin/fv-map" "$made/firmware.fd" > "$room/map"; grep -q Pei0 "$room/map" || fail "fv-map does not draw the files of a compressed section"
+    "${way[@]}" "$bin/fv-map" "$made/firmware.fd" > "$room/map" || true # with status 1, for the same reason
+    grep -q Pei0 "$room/map" || fail "fv-map does not draw the files of a compressed section"
 }
 
 # Checks that fvmap, the name of fv-map in 1.0, draws the map that tools_work has drawn.
 fvmap_works() { # BIN MADE [WAY..]
-    "${@:3}" env -i PATH=/usr/bin:/bin "$1/fvmap" "$2/firmware.fd" | cmp - "$room/map" || fail "fvmap is not fv-map"
+    "${@:3}" env -i PATH=/usr/bin:/bin "$1/fvmap" "$2/firmware.fd" > "$room/old-map" || true # as above
+    cmp "$room/old-map" "$room/map" || fail "fvmap is not fv-map"
 }

@@ -44,7 +44,7 @@ from fv import images, same, sbom, text, unpack  # noqa: E402
 from fv._sheet import drawing_of  # noqa: E402
 from fv.limits import Full, Limits  # noqa: E402
 from fv.map import draw  # noqa: E402
-from fv.names import Names  # noqa: E402
+from fv.names import CODE, Names  # noqa: E402
 
 SECONDS = 20
 LIMITS = Limits(total=1 << 26, section=1 << 24, slow=1 << 16)
@@ -128,12 +128,12 @@ def check_content(content: images.Content) -> None:
 
 def check_unread(content: images.Content) -> None:
     """Checks that each gap that is not erased, and each place where a volume is likely to begin, is read or reported.
-    Places in the bodies of sections that may be opened are left out."""
+    Places in the bodies of sections that may be opened, or are code, are left out."""
     gaps = {(it.offset, it.length) for it in content.unread if it.is_gap}
     shown = {(it.offset, it.length) for it in content.others if len({*it.body}) > 1 or it.body[0] not in (0, 255)}
     require(gaps == shown, "other gaps", gaps, shown)
     known = {it.offset for it in content.unread} | {*starts_in(content.every_volume())}
-    packed = [it for it in packed_in(content) if it.is_packed]
+    packed = [it for it in packed_in(content) if it.is_packed or it.kind in CODE]
     for found in re.finditer(rb"(?=\0\0\0\0_FVH)", content.data):
         at = found.start() - 36
         length, header = int.from_bytes(content.data[at + 32 : at + 36], "little"), content.data[at + 48 : at + 50]
@@ -204,8 +204,8 @@ def check_shown(data: bytes, image: images.Content) -> None:
     lines = [*unpack.table(entries, True), *text.shown(data, True), *text.shown(data, False), *rows]
     require(all(is_shown(line.replace("\t", "").rstrip("\n")) for line in lines), "a line")
     sbom.bill("image", data, entries)
-    drawing = drawing_of("image", image, 1000)
-    require(draw(drawing, drawing, NAMES).endswith("</html>\n"), "no whole page")
+    drawing = drawing_of("image", image, NAMES, 1000)
+    require(draw(drawing, drawing).endswith("</html>\n"), "no whole page")
 
 
 def check_same(data: bytes, other: bytes | None, changed: bytes) -> None:

@@ -131,12 +131,12 @@ def test_headers() -> None:
     """Reports each volume that is not read: beside a volume, in a pad, a raw file, a section or a rejected volume."""
     other = made.volume([made.A])
     one = changed(other, 50, other[50] ^ 1)
-    cases = [(one, "volume", "fault 6 at 32818"), (changed(other, 55, 1), "volume of revision 1", "fault 4 at 32823")]
+    cases = [(one, "volume", "fault 6 at 32768"), (changed(other, 55, 1), "volume of revision 1", "fault 4 at 32823")]
     ffs1 = uuid.UUID("7a9354d9-0468-444a-81ce-0bf617d890df").bytes_le
     store = uuid.UUID("fff12b8d-7696-4c8b-a985-2747075b4f50").bytes_le
     cases.append((changed(other, 16, *ffs1), "FFS1 volume", "fault 3 at 32784"))
     cases.append((changed(other, 16, *store), "variable store", "fault 3 at 32784"))
-    cases.append((other[:0x4000], "volume", "fault 8 at"))
+    cases.append((other[:0x4000], "volume", "fault 1 at 49152"))
     for data, what, reason in cases:
         gap, header = unread_in(made.volume([made.B]) + data)
         assert gap == ("", "it is in no volume")
@@ -262,7 +262,7 @@ def test_tiano() -> None:
         guided = made.guided(uuid.UUID("a31280ad-481e-41b6-95e8-127f4c984779"), packed)
         found = names_of(made.volume([made.file(made.guid(1), guided, made.FREEFORM)]))
         assert found == ["Old"] * (width == 5)
-        assert closed_in(packed_file(head + packed), Limits(slow=4200)) == ["more than 4200 symbols of slow compression"]
+        assert closed_in(packed_file(head + packed), Limits(slow=4000)) == ["more than 4000 symbols of slow compression"]
         for wrong in (packed[:7], packed[:-20], packed[:8] + made.noise("tiano", 300)):
             assert closed_in(packed_file(head + wrong))[0].startswith("compression: ")
     assert closed_in(packed_file(b"\0\0\0\0")) == ["no compression header"]

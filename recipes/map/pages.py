@@ -10,6 +10,8 @@ import base64
 import hashlib
 import html
 import json
+import os
+import pty
 import re
 import shutil
 import subprocess
@@ -154,10 +156,11 @@ class Reader(HTMLParser):
         return [row for row in self.rows if row and row[0] in ("came", "went", "changed")]
 
 
-def page_of(*words: str, wanted: int = 0) -> tuple[str, Reader]:
-    """Returns a page and its contents. The page must not have a script or load anything from outside."""
+def page_of(*words: str, wanted: int = 0, other: int | None = None) -> tuple[str, Reader]:
+    """Returns a page and its contents. fv-map must end with the wanted status, or with the other one. The page must not
+    have a script or load anything from outside."""
     ran = subprocess.run(["fv-map", *words], capture_output=True, encoding="utf-8", check=False)
-    assert ran.returncode == wanted and "Traceback" not in ran.stderr, (words, ran.returncode, ran.stderr)
+    assert ran.returncode in (wanted, other) and "Traceback" not in ran.stderr, (words, ran.returncode, ran.stderr)
     it = Reader(ran.stdout)
     assert set(it.tags) <= TAGS, set(it.tags) - TAGS
     assert {key for key, _ in it.attributes} <= KEYS, it.attributes
@@ -175,8 +178,8 @@ def test_page() -> None:
     """Finds each part of an image on the page."""
     data, places = made(True)
     image = write("new<b>.fd", data)
-    written, page = page_of(image)
-    assert written == page_of(image)[0] and "Not all is shown" not in written
+    written, page = page_of(image, wanted=1)
+    assert written == page_of(image, wanted=1)[0] and "Not all is shown" not in written
     for name, at in places.items():
         assert name in ("pad", "deleted file") or {str(at), hex(at)} <= set(page.row_with(name)), (name, at)
     for name in ("InnerPei", "InnerMm", "NestedData"):
@@ -186,7 +189,7 @@ def test_page() -> None:
     assert {"4096", "0x1000"} <= set(page.row_with("SECFV")), "the place of the volume"
     page.row_with("volume 1", "fault 11 at 41032 (0xa048): the header of a file is damaged: its checksum is wrong")
     for row in (["0", "0x0", "4.0 KiB"], ["36864", "0x9000", "4.0 KiB"], ["41984", "0xa400", "64 B"]):
-        assert ["no volume", *row, ""] in page.rows, row
+        assert ["no volume", *row, "erased"] in page.rows, row
     boxes = written.count('<div class="wide"><table>')
     assert 0 < boxes == written.count("<table"), "a table that does not scroll in its own box"
     assert any("(not opened: GUID-defined: LZMA: " in cell for cell in page.row_with("Broken"))
@@ -204,10 +207,32 @@ def test_page() -> None:
         assert part in written, "a part that does not lead to its row"
 
 
+def test_unread() -> None:
+    """Finds each part that was not read on the page, with its place and the reason, and the status 1. An image that was
+    read whole has none, and the status 0."""
+    written, page = page_of("images/plain.fd")
+    assert "Everything was read." in page.texts and 'id="unread"' not in written
+    _, page = page_of(write("new.fd", made(True)[0]), wanted=1)
+    fault = "fault 11 at 41032 (0xa048): the header of a file is damaged: its checksum is wrong"
+    assert ["40960", "0xa000", "1.0 KiB", "rejected volume", fault, "the image"] in page.rows
+    assert page.row_with("deleted file", "it was deleted")[2] == "224 B"
+    assert page.row_with("GUID-defined", "SECFV › Broken")[4].startswith("not opened: LZMA: ")
+    store = bytes(16) + uuid.UUID("fff12b8d-7696-4c8b-a985-2747075b4f50").bytes_le + images.volume([], 1024)[32:]
+    stored = images.stream(images.guided(images.CRC32, bytes(4) + images.section(images.RAW, b"x")), images.ui("Summed"))
+    files = [images.pad(b"held"), images.file(guid_of(42), stored, images.FREEFORM)]
+    data = images.flash(images.volume(files), store)[:-8] + b"trailing"
+    _, page = page_of(write("unread.fd", data), wanted=1)
+    assert page.row_with("pad")[2:] == ["4 B", "pad", "a pad holds bytes", "volume 0"], page.row_with("pad")
+    assert page.row_with("the CRC32 is wrong")[5] == "volume 0 › Summed", page.row_with("the CRC32 is wrong")
+    assert page.row_with("Summed")[6].endswith("(GUID-defined: the CRC32 is wrong)"), page.row_with("Summed")
+    assert page.row_with("variable store", "40960")[3] == "1.0 KiB", page.row_with("variable store", "40960")
+    assert any(it.startswith("Not read: ") for it in page.texts)
+
+
 def test_against() -> None:
     """Finds the files that came, went and changed, and no others, and the names of the two images."""
     new, old = write("new.fd", made(True)[0]), write("old.fd", made(False)[0])
-    written, page = page_of("--against", old, new)
+    written, page = page_of("--against", old, new, wanted=1)
     rows = {(row[0], row[1]): row[2:] for row in page.changes()}
     assert set(rows) == {("came", "GammaDxe"), ("went", "BetaApp"), ("changed", "AlphaDxe")}, rows
     assert rows["came", "GammaDxe"] == ["–", "806 B", "+806 B", "SECFV"] and rows["changed", "AlphaDxe"][2] == "0 B", rows
@@ -216,13 +241,57 @@ def test_against() -> None:
     sides = [(row[0], row[1], row[3]) for row in page.rows if row and row[0] in ("before", "now")]
     sums = {name: hashlib.sha256(Path(name).read_bytes()).hexdigest() for name in (old, new)}
     assert sides == [("before", old, sums[old]), ("now", new, sums[new])], sides
-    _, page = page_of("--against", new, new)
+    _, page = page_of("--against", new, new, wanted=1)
     assert {"0 changed", "0 came", "Against new.fd", "The two have the same bytes."} <= set(page.texts), page.texts[:20]
     for folder in ("a/out", "b/out"):
         Path(folder).mkdir(parents=True)
         shutil.copy(new, f"{folder}/build.fd")
-    _, page = page_of("--against", "a/out/build.fd", "b/out/build.fd")
+    _, page = page_of("--against", "a/out/build.fd", "b/out/build.fd", wanted=1)
     assert {"b/out/build.fd", "Against a/out/build.fd"} <= set(page.texts), page.texts[:20]
+
+
+def test_equal_names() -> None:
+    """Finds a changed driver, also if a second file has the name of the file around it."""
+
+    def image(beta: bytes) -> bytes:
+        alpha = images.driver(guid_of(1), "Alpha", bytes(40))
+        inner = [images.volume([alpha, images.driver(guid_of(2), "Beta", it)], 1024) for it in (beta, bytes(50))]
+        mains = [holder(5 + it, images.section(images.VOLUME, inner[it]), "Main") for it in range(2)]
+        return images.volume(mains)
+
+    old, new = write("old.fv", image(bytes(50))), write("new.fv", image(b"\x01" * 50))
+    _, page = page_of("--against", old, new)
+    found = [[row[0], row[1], row[5]] for row in page.changes()]
+    assert found == [["changed", "Main", "volume 0"], ["changed", "Beta", "volume 0 › Main › volume 0"]], found
+
+
+def test_unread_changes() -> None:
+    """Finds changes of rejected volumes and of other bytes that are not read, and counts them."""
+    old, new = bytearray(made(True)[0]), bytearray(made(True)[0])
+    new[41400] ^= 1  # in the rejected volume
+    at = made(True)[1]["deleted file"] + 4096 + 100
+    new[at] ^= 1
+    _, page = page_of("--against", write("old.fd", bytes(old)), write("new.fd", bytes(new)), wanted=1)
+    assert [row[:2] for row in page.changes()] == [["changed", "volume 1"]], page.changes()
+    said = "Of the parts that are not read, 2 came or changed, and 2 went."
+    assert said in page.texts, page.texts[:40]
+    assert page.row_with("deleted file came", "it was deleted")
+
+
+def test_texts() -> None:
+    """Checks that the name of the image is not a part of the template, and that a long name is cut."""
+    written, _ = page_of(write("@STYLE@.fd", images.volume([images.driver(guid_of(1), "N" * 5000, b"")])))
+    assert "<title>@STYLE@.fd</title>" in written and "<h1>@STYLE@.fd</h1>" in written
+    assert 0 < max(map(len, re.findall("N+", written))) <= 200, "a long name"
+
+
+def test_terminal() -> None:
+    """Checks that no page is written to a terminal."""
+    ours, terminal = pty.openpty()
+    ran = subprocess.run(["fv-map", "images/plain.fd"], stdout=terminal, stderr=subprocess.PIPE, text=True, check=False)
+    assert ran.returncode == 3 and "fv-map IMAGE > map.html" in ran.stderr and ran.stderr.count("\n") == 1, ran
+    os.close(terminal)
+    os.close(ours)
 
 
 def test_fixed() -> None:
@@ -235,8 +304,9 @@ def test_fixed() -> None:
     assert page.count("2 of 3 files fixed") == 2, "the number of fixed files"
     _, read = page_of("--against", "images/less-fixed.fd", "images/fixed.fd")
     assert [row[:2] for row in read.changes()] == [["changed", "PeiCore"]], read.changes()
-    fault = "a file is marked fixed, and only volumes whose files may all be moved are read"
-    page_of("images/fixed-inside.fv")[1].row_with("volume 0", f"fault 15 at 191 (0xbf): {fault}")
+    _, read = page_of("images/fixed-inside.fv")
+    assert "rejected volume" not in read.texts and read.row_with("PeiCore", "PEI core, fixed")
+    read.row_with("canonical 2 of 3 files fixed")
 
 
 def test_none() -> None:
@@ -249,12 +319,13 @@ def test_none() -> None:
 def test_limits() -> None:
     """Draws images that hold far more than their size: an image of many volumes, and a packed volume with very many
     sections."""
-    page, read = page_of(write("many.fd", images.volume([], 72) * 251))
+    page, read = page_of(write("many.fd", images.volume([], 72) * 251), wanted=1)
     assert "Not all is shown" in page and "no volume" not in read.texts
     assert ["not shown", "18000", "0x4650", "72 B", ""] in read.rows, "what is not shown"
     sections = images.section(images.RAW, b"") * 500_000
     inner = images.volume([images.file(guid_of(1), sections, images.FREEFORM)], 0x200000)
-    page, _ = page_of(write("listed.fd", images.volume([holder(2, images.compressed(inner), "Listed")], 0x10000)))
+    listed = images.volume([holder(2, images.compressed(inner), "Listed")], 0x10000)
+    page, _ = page_of(write("listed.fd", listed), wanted=1)
     assert "(not opened: GUID-defined: more than 100000 parts)" in page, "a section that has too much"
 
 
@@ -285,7 +356,7 @@ def test_chromium() -> None:
     """Checks that Chromium has the names, draws the colours, and has room for the page in a narrow window."""
     new, old = write("new.fd", made(True)[0]), write("old.fd", made(False)[0])
     for words in ([new], ["--against", old, new]):
-        page, _ = page_of(*words)
+        page, _ = page_of(*words, wanted=1)
         read = Reader(run_chromium(page, "--dump-dom"))
         for name in ("AlphaDxe", "GammaDxe", "InnerPei", "InnerMm", "NestedData", SHOWN):
             read.row_with(name)
@@ -301,21 +372,22 @@ def test_chromium() -> None:
 
 def test_ovmf() -> None:
     """Draws Debian's OVMF, which has files with known names."""
-    _, read = page_of(OVMF)
+    _, read = page_of(OVMF, other=1)
     assert all("canonical" in read.row_with(name) for name in ("DXEFV", "PEIFV", "SECFV"))
     assert {"Shell", "DxeCore"} <= set(read.drawn), read.drawn
 
 
 def test_aavmf() -> None:
     """The first volume of Debian's AAVMF has fixed files."""
-    page, read = page_of(AAVMF)
+    page, read = page_of(AAVMF, other=1)
     assert re.search(r"\b\d+ of \d+ files fixed", page) and "rejected volume" not in read.texts
     assert {"PeiCore", "DxeCore"} <= {name for row in read.rows for name in row}, "names in the tables"
 
 
 def main() -> None:
     """Runs the tests in the folder in which it is called."""
-    for test in (test_page, test_against, test_fixed, test_none, test_limits):
+    tests = (test_page, test_unread, test_against, test_equal_names, test_unread_changes, test_texts, test_terminal)
+    for test in (*tests, test_fixed, test_none, test_limits):
         test()
     for test, needed in ((test_chromium, CHROMIUM), (test_ovmf, OVMF), (test_aavmf, AAVMF)):
         if needed and (shutil.which(needed) or Path(needed).exists()):

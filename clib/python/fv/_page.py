@@ -7,18 +7,28 @@ from __future__ import annotations
 import html
 import os
 import re
-from collections.abc import Iterator
+from collections import Counter
+from collections.abc import Iterable, Iterator, Sequence
+from dataclasses import dataclass
 from pathlib import Path
+from typing import TypeVar
 
-from ._errors import Fault
-from ._sheet import Change, Drawing, Row, Sheet, SheetNames
+from ._sheet import Changes, Drawing, Lack, Row, Sheet, bytes_in, meaning_of
+from .images import File, Part, Unread, Volume
 from .shown import printable
 
 MOST_VOLUMES = 250  # volumes of a page
 MOST_DRAWN = 1000  # files of a volume that are drawn as areas
+MOST_PIECES = 2000  # parts of an image that are in no volume
+MOST_PARTS = 3000  # parts of a strip
 MOST_ROWS = 5000  # rows of a table
-MOST_SECTIONS, MOST_CLOSED = 8, 4  # sections that the row of a file names, and sections that are not opened
+MOST_OPEN = 50  # rows of the table of the parts that are not read, if it is open at first
+MOST_SECTIONS, MOST_NOTES = 8, 4  # sections that the row of a file names, and notes about sections
+MOST_SIGNS = 24_000_000  # characters of a page. When it has them, the rest of each table and picture is left out
 
+Item = TypeVar("Item")
+
+NO_VOLUME = "no volume"
 # The classes of the colours by the types of files, from 0x01 on.
 COLORS = dict(enumerate("raw free-form core core core pei dxe pei app mm image mm core mm core".split(), 0x01))
 LEGEND = {
@@ -36,7 +46,7 @@ LEGEND = {
     "header": "header",
     "free": "free",
     "bad": "rejected volume",
-    "none": "no volume",
+    "none": NO_VOLUME,
     "unread": "not shown",
 }
 # Parts of a volume that are not among its files: their names, and the classes of their colours.
@@ -93,32 +103,39 @@ def breakable(name: str) -> str:
     return "<wbr>".join(text(it) for it in re.split(r"(?<=[a-z0-9])(?=[A-Z])", name))
 
 
-def fault_of(fault: Fault) -> str:
-    """Returns a fault, its offset in decimal and hexadecimal, and its meaning."""
-    return f"fault {fault.number} at {offset(fault.offset)}: {fault.text}"
-
-
 Box = tuple[float, float, float, float]
 Stripe = tuple[int, int, str, str, str]  # a part of a strip: offset, length, colour, title, the place that it leads to
 
 
-def worst_side(areas: list[float], short: float) -> float:
-    """Returns how far from a square the worst of a row of rectangles is."""
-    side = sum(areas) / short
-    return max(max(side * side / area, area / (side * side)) for area in areas)
+def worst_side(total: float, largest: float, smallest: float, short: float) -> float:
+    """Returns how far from a square the worst of a row of rectangles is, from the sum of their areas, their largest and
+    their smallest area, and the shorter side of the box."""
+    square = (total / short) ** 2
+    return max(square / smallest, largest / square)
+
+
+def row_of(areas: Sequence[float], start: int, short: float) -> int:
+    """Returns how many areas, the largest first, make the next row of rectangles that are almost squares."""
+    total, count = areas[start], 1
+    while start + count < len(areas):
+        longer = total + areas[start + count]
+        now = worst_side(total, areas[start], areas[start + count - 1], short)
+        if worst_side(longer, areas[start], areas[start + count], short) > now:
+            break
+        total, count = longer, count + 1
+    return count
 
 
 def squarified(sizes: list[int], box: Box) -> Iterator[Box]:
     """Yields rectangles of these sizes, the largest first, that are almost squares and fill a box."""
     x, y, width, height = box
     scale = width * height / sum(sizes)
-    rest = [size * scale for size in sizes]
-    while rest:
-        short, count = min(width, height), 1
-        while count < len(rest) and worst_side(rest[: count + 1], short) <= worst_side(rest[:count], short):
-            count += 1
-        side, along = sum(rest[:count]) / short, 0.0
-        for area in rest[:count]:
+    areas, start = [size * scale for size in sizes], 0
+    while start < len(areas):
+        short = min(width, height)
+        row = areas[start : start + row_of(areas, start, short)]
+        side, along = sum(row) / short, 0.0
+        for area in row:
             if width >= height:
                 yield x, y + along, side, area / side
             else:
@@ -127,56 +144,126 @@ def squarified(sizes: list[int], box: Box) -> Iterator[Box]:
         x, y, width, height = (
             (x + side, y, width - side, height) if width >= height else (x, y + side, width, height - side)
         )
-        rest = rest[count:]
+        start += len(row)
+
+
+def merged(parts: Iterable[Stripe], whole: int) -> list[Stripe]:
+    """Returns the parts of a strip. Parts too thin to be seen are one part, except those that are not volumes."""
+    found: list[Stripe] = []
+    thin = whole / 1200
+    for part in parts:
+        at, length, color, _, place = found[-1] if found else part
+        are_thin = found and length < thin and part[1] < thin and part[0] == at + length
+        if are_thin and "none" not in (color, part[2]):
+            found[-1] = at, length + part[1], color, "several parts", place
+        elif part[1]:
+            found.append(part)
+    return found
+
+
+def pieces(unread: Iterable[Unread], start: int, end: int) -> Iterator[tuple[int, int, Unread | None]]:
+    """Yields the bytes between two offsets in pieces: the offset of each piece, its length, and the innermost part
+    around it, if there is one."""
+    rest = sorted(unread, key=place_of, reverse=True)
+    ends = {it for part in rest for it in (part.offset, part.offset + part.length) if start < it < end}
+    places, around = sorted({start, end, *ends}), list[Unread]()
+    for at, upto in zip(places, places[1:]):
+        while rest and rest[-1].offset <= at:
+            around.append(rest.pop())
+        while around and around[-1].offset + around[-1].length <= at:
+            around.pop()
+        yield at, upto - at, around[-1] if around else None
+
+
+def place_of(part: Part) -> tuple[int, int]:
+    """Returns a value by which parts are ordered. A part comes after the parts around it."""
+    return part.offset, -part.length
+
+
+@dataclass
+class Gap:
+    """Bytes of an image between the volumes that are drawn, or up to the first volume that is not drawn. `unread` are
+    the parts in them that are not read."""
+
+    start: int
+    end: int
+    unread: list[Unread]
+
+
+def gaps(drawing: Drawing) -> Iterator[Gap]:
+    """Yields the gap before each volume, and the gap after the last one."""
+    rest = sorted(drawing.image.unread, key=place_of, reverse=True)
+    start = 0
+    for sheet in [*drawing.sheets, None]:
+        end = sheet.volume.offset if sheet else drawing.end
+        gap = Gap(start, end, [])
+        while rest and rest[-1].offset < end:
+            gap.unread.append(rest.pop())
+        yield gap
+        start = end + (sheet.size if sheet else 0)
 
 
 class Page:
     """The lines of the page."""
 
-    def __init__(self, names: SheetNames) -> None:
-        self._names = names
+    def __init__(self) -> None:
         self._lines: list[str] = []
+        self._signs = 0
         self._used: set[str] = set()
         self._marks: set[str] = set()
         self._anchors: dict[int, str] = {}
+        self._placed: set[str] = set()
+        self._left_out: Counter[str] = Counter()
 
     def add(self, *lines: str) -> None:
         """Adds lines of markup."""
         self._lines += lines
+        self._signs += sum(map(len, lines))
+
+    def up_to(self, most: int, items: Sequence[Item], what: str) -> Iterator[Item]:
+        """Yields items for as long as the page has room for them, and at most this many. Notes how many are left
+        out."""
+        for number, item in enumerate(items):
+            if number == most or self._signs > MOST_SIGNS:
+                self._left_out[what] += len(items) - number
+                return
+            yield item
 
     def color(self, name: str) -> str:
         """Returns the class of a colour, and adds the colour to the legend."""
         self._used.add(name)
         return f"k-{name}"
 
-    def anchor(self, what: Sheet | Row) -> str:
+    def anchor(self, what: Volume | File) -> str:
         """Returns the name of the place of a volume or of a file's row on the page."""
-        letter = "v" if isinstance(what, Sheet) else "f"
+        letter = "v" if isinstance(what, Volume) else "f"
         return self._anchors.setdefault(id(what), f"{letter}{len(self._anchors)}")
 
-    def head(self, drawing: Drawing, name: str, is_cut: bool) -> str:
+    def placed(self, what: Volume | File) -> str:
+        """Returns the attribute of the element to which links to a volume or a file lead."""
+        self._placed.add(self.anchor(what))
+        return f' id="{self.anchor(what)}"'
+
+    def head(self, drawing: Drawing, name: str, cuts: list[str]) -> str:
         """Returns the head of the page, which names the image and has the legend of the colours on the page."""
         size, count = len(drawing.data), len(drawing.sheets)
         total = sum(sheet.volume.length for sheet in drawing.sheets)
-        cut = f"\n<p>Not all is shown: there are more than {MOST_VOLUMES} volumes.</p>" if is_cut else ""
         return f"""<header><h1>{text(name)}</h1>
 <p>{text(bytes_of(size))}, {count} volume{'s' * (count != 1)} in {percent(total, size)} of it</p>
-<p class="mono dim">SHA-256 {drawing.digest}</p></header>{cut}
+<p class="mono dim">SHA-256 {drawing.digest}</p>
+<p>{read_of(drawing.lacks, "#unread")}</p></header>{self.cut(cuts)}
 {self.legend()}"""
 
-    def strip(self, parts: list[Stripe], whole: int) -> None:
+    def cut(self, cuts: list[str]) -> str:
+        """Returns a line that says what is left out of the page, or an empty text."""
+        about = cuts + [f"{count} {what} are left out" for what, count in self._left_out.items()]
+        return f"\n<p>Not all is shown: {'; '.join(about)}.</p>" if about else ""
+
+    def strip(self, parts: Iterable[Stripe], whole: int) -> None:
         """Adds the parts of a whole. Parts too thin to be seen are drawn as one, except those that are not volumes."""
         self.add('<div class="strip">')
-        thin = whole / 1200
-        at, length, color, title, place = 0, 0, "", "", ""
-        for part in [*parts, (whole, 0, "", "", "")]:
-            are_thin = 0 < length < thin and 0 < part[1] < thin and part[0] == at + length
-            if are_thin and "none" not in (color, part[2]):
-                length, title = length + part[1], "several parts"
-                continue
-            if length:
-                self.part((at, length, color, title, place), whole)
-            at, length, color, title, place = part
+        for part in self.up_to(MOST_PARTS, merged(parts, whole), "parts of strips"):
+            self.part(part, whole)
         self.add("</div>")
         self.add(f'<div class="ends"><span>{offset(0)}</span><span>{offset(whole)}</span></div>')
 
@@ -193,17 +280,19 @@ class Page:
 
     def flash(self, drawing: Drawing) -> None:
         """Adds the section of the image: where its volumes are, and the parts that are not volumes."""
-        stripes: list[tuple[Stripe, Sheet | None]] = []
-        end = 0
-        for sheet in drawing.sheets:
-            at, length = sheet.volume.offset, sheet.volume.length
-            stripes.append(((end, at - end, "none", "no volume", ""), None))
-            color = "bad" if sheet.volume.fault else "image"
-            stripes.append(((at, length, color, self._names.volume(sheet), self.anchor(sheet)), sheet))
-            end = at + length
-        stripes.append(((end, drawing.unread - end, "none", "no volume", ""), None))
-        stripes.append(((drawing.unread, len(drawing.data) - drawing.unread, "unread", "not shown", ""), None))
-        stripes = [it for it in stripes if it[0][1]]
+        stripes: list[tuple[Stripe, Sheet | str]] = []  # each with its volume, or with a note
+        for gap, sheet in zip(gaps(drawing), [*drawing.sheets, None]):
+            for at, length, it in pieces(gap.unread, gap.start, gap.end):
+                note = "erased" if it is None else "not erased" if it.is_gap else it.reason
+                stripes.append(((at, length, "none", it.what if it and it.what else NO_VOLUME, ""), note))
+            if sheet:
+                color = "bad" if sheet.volume.fault else "image"
+                place = sheet.volume.offset, sheet.size
+                stripes.append(((*place, color, sheet.name, self.anchor(sheet.volume)), sheet))
+        stripes.append(((drawing.end, len(drawing.data) - drawing.end, "unread", "not shown", ""), ""))
+        others = [it for it in stripes if it[0][1] and isinstance(it[1], str)]
+        kept = {it[0][0] for it in self.up_to(MOST_PIECES, others, "parts beside volumes")}
+        stripes = [it for it in stripes if it[0][1] and (isinstance(it[1], Sheet) or it[0][0] in kept)]
         self.add("<section><h2>The image</h2>")
         if not drawing.sheets:
             self.add("<p>No firmware volume was found in this image.</p>")
@@ -211,19 +300,19 @@ class Page:
         self.add('<div class="wide"><table><tr><th>Volume<th class="n" colspan="2">Offset<th class="n">Size')
         self.add('<th class="n">Files<th>Used<th class="n">Pads<th class="n">Free<th>Verdict</tr>')
         for (at, length, _, title, _), its in stripes:
-            if its:
+            if isinstance(its, Sheet):
                 self.rows(its, 0)
             else:
-                cells = f'{title}{offset_cells(at)}<td class="n">{amount(length)}<td colspan="5">'
-                self.add(f'<tr class="dim"><td class="name">{cells}</tr>')
+                cells = f'{text(title)}{offset_cells(at)}<td class="n">{amount(length)}'
+                self.add(f'<tr class="dim"><td class="name">{cells}<td colspan="5">{text(its)}</tr>')
         self.add("</table></div></section>")
 
     def rows(self, sheet: Sheet, depth: int) -> None:
         """Adds the row of a volume to the table of volumes, and the rows of the volumes inside."""
         at, length = sheet.volume.offset, sheet.volume.length
         self.add(
-            f'<tr><td class="name" style="padding-left:{18 * depth}px"><a href="#{self.anchor(sheet)}">'
-            f'{text(self._names.volume(sheet))}</a>{offset_cells(at)}<td class="n">{amount(length)}'
+            f'<tr><td class="name" style="padding-left:{18 * depth}px"><a href="#{self.anchor(sheet.volume)}">'
+            f'{text(sheet.name)}</a>{offset_cells(at)}<td class="n">{amount(length)}'
         )
         if sheet.stretches:
             used = sheet.sum_of("header", "file")
@@ -243,14 +332,14 @@ class Page:
         """Returns the verdict on a volume: whether it is its own canonical image, or its fault; and how many of its
         files are fixed."""
         if sheet.volume.fault:
-            return f'<span class="chip bad">{text(fault_of(sheet.volume.fault))}</span>'
+            return f'<span class="chip bad">{text(meaning_of(sheet.volume.fault))}</span>'
         kind, verdict = ("good", "canonical") if sheet.is_canonical else ("fair", "not canonical")
         fixed = f' <span class="chip fair">{sheet.fixed}</span>' if sheet.fixed else ""
         return f'<span class="chip {kind}">{verdict}</span>{fixed}'
 
     def volume(self, sheet: Sheet, inside: str = "") -> None:
         """Adds a volume: its figures, where its parts are, how large its files are, and the volumes in them."""
-        self.add(f'<section id="{self.anchor(sheet)}"><h2>{text(self._names.volume(sheet))} {self.verdict(sheet)}</h2>')
+        self.add(f"<section{self.placed(sheet.volume)}><h2>{text(sheet.name)} {self.verdict(sheet)}</h2>")
         volume = sheet.volume
         facts = [f"{inside}at {offset(volume.offset)}", bytes_of(volume.length), volume.type_name]
         whats = {"file": "files", "pad": "pads", "free": "free"}
@@ -270,7 +359,7 @@ class Page:
                 if held.packed != held.size:
                     size = f"{amount(held.packed)} unpacked to {size}"
                 for inner in held.volumes:
-                    self.volume(inner, f"in {self._names.file(row.file)} ({held.how}, {size}) ")
+                    self.volume(inner, f"in {row.name} ({held.how}, {size}) ")
         self.add("</section>")
 
     def places(self, sheet: Sheet) -> None:
@@ -292,8 +381,8 @@ class Page:
         for it in sheet.stretches:
             row, place = rows.get(it.at), ""
             if row:
-                name, color = self._names.file(row.file), COLORS.get(it.kind, "other")
-                place = self.anchor(row) if is_drawn else ""
+                name, color = row.name, COLORS.get(it.kind, "other")
+                place = self.anchor(row.file) if is_drawn else ""
             else:
                 name, color = GONE.get(it.what, (it.what, it.what))
             stripes.append((it.at, it.length, color, name, place))
@@ -301,10 +390,11 @@ class Page:
 
     def areas(self, sheet: Sheet) -> None:
         """Adds files as rectangles of their sizes. The style hides a name that has no room."""
-        rows = sorted((row for row in sheet.rows if row.file.length), key=lambda it: -it.file.length)[:MOST_DRAWN]
+        found = sorted((row for row in sheet.rows if row.size), key=lambda it: -it.size)
+        rows = list(self.up_to(MOST_DRAWN, found, "areas"))
         height = 560 if len(rows) > 40 else 340 if len(rows) > 8 else 180
-        total = sum(row.file.length for row in rows)
-        boxes = squarified([row.file.length for row in rows], (0, 0, 1100, height))
+        total = sum(row.size for row in rows)
+        boxes = squarified([row.size for row in rows], (0, 0, 1100, height))
         self.add(f'<div class="areas" style="height:{height}px" role="group" aria-label="sizes of files">')
         for row, box in zip(rows, boxes):
             self.area(row, box, total)
@@ -313,7 +403,7 @@ class Page:
     def area(self, row: Row, box: Box, total: int) -> None:
         """Adds a file as a rectangle of its size, a part of the total. The rectangle leads to the row of the file."""
         x, y, width, tall = box
-        file, name = row.file, self._names.file(row.file)
+        file, name = row.file, row.name
         share = f"{bytes_of(file.length)}, {percent(file.length, total)} of the files"
         about = f"{name}\n{file.type_name}\n{share}\n{file.guid}"
         if row.mark:
@@ -321,18 +411,18 @@ class Page:
             self._marks.add(row.mark)
         sides = f"left:{x / 11:.3f}%;top:{y:.1f}px;width:{width / 11:.3f}%;height:{tall:.1f}px"
         color = self.color(COLORS.get(file.kind, "other"))
-        place = f'href="#{self.anchor(row)}"'
+        place = f'href="#{self.anchor(file)}"'
         self.add(f'<a {place} style="{sides}" title="{text(about)}"><span class="{color} {row.mark}">')
         self.add(f"<b>{breakable(name)}</b><small>{amount(file.length)}</small></span></a>")
 
     def table(self, sheet: Sheet) -> None:
         """Adds the table of the files of a volume, in their order."""
-        most = max(row.file.length for row in sheet.rows) or 1
+        most = max(row.size for row in sheet.rows) or 1
         count = f"{len(sheet.rows)} file{'s' * (len(sheet.rows) != 1)}"
         self.add(f'<details open><summary>{count}</summary><div class="wide"><table>')
         self.add('<tr><th class="n" colspan="2">Offset<th>Name<th>Type<th class="n">Size<th><th>Sections<th>GUID')
         self.add("<th>SHA-256</tr>")
-        for row in sheet.rows[:MOST_ROWS]:
+        for row in self.up_to(MOST_ROWS, sheet.rows, "rows of files"):
             self.file_row(row, most)
         self.add("</table></div></details>")
 
@@ -341,49 +431,70 @@ class Page:
         file = row.file
         parts = [f"{it.type_name} {amount(it.length)}" for it in file.sections[:MOST_SECTIONS]]
         parts += ["…"] if len(file.sections) > MOST_SECTIONS else []
-        parts += [f"(not opened: {it})" for it in row.closed[:MOST_CLOSED]]
+        parts += [f"({it})" for it in row.notes[:MOST_NOTES]]
         mark = f' <span class="chip {row.mark}">{row.mark}</span>' if row.mark else ""
         width = max(50 * file.length / most, 1)
         bar = f'<i class="bar {self.color(COLORS.get(file.kind, "other"))}" style="width:{width:.0f}px"></i>'
         self.add(
-            f'<tr id="{self.anchor(row)}">{offset_cells(row.at)}'
-            f'<td class="name">{breakable(self._names.file(file))}{mark}<td>{text(file.type_name)}'
+            f"<tr{self.placed(file)}>{offset_cells(row.at)}"
+            f'<td class="name">{breakable(row.name)}{mark}<td>{text(file.type_name)}'
             f'{", fixed" * file.is_fixed}<td class="n" title="{file.length:,} bytes">{amount(file.length)}<td>{bar}'
             f'<td class="long dim">{text(", ".join(parts))}<td class="mono dim">{text(file.guid)}'
             f'<td class="mono dim">{row.digest.hex() if row.digest else ""}</tr>'
         )
 
-    def against(self, old: Drawing, new: Drawing, found: list[Change]) -> None:
+    def against(self, old: Drawing, new: Drawing, found: Changes) -> None:
         """Adds the names of the two images, and the files that came, went and changed."""
         self.add(f"<section><h2>Against {text(name_of(old.path, new.path))}</h2>")
-        self.add('<div class="wide"><table><tr><th><th>Image<th class="n">Size<th>SHA-256</tr>')
+        self.add('<div class="wide"><table><tr><th><th>Image<th class="n">Size<th>SHA-256<th>Read</tr>')
         for when, drawing, other in (("before", old, new), ("now", new, old)):
             self.add(f'<tr><td>{when}<td class="name">{text(name_of(drawing.path, other.path))}')
-            self.add(f'<td class="n">{text(bytes_of(len(drawing.data)))}<td class="mono dim">{drawing.digest}</tr>')
+            self.add(f'<td class="n">{text(bytes_of(len(drawing.data)))}<td class="mono dim">{drawing.digest}')
+            self.add(f"<td>{read_of(drawing.lacks)}</tr>")
         self.add("</table></div>")
         if old.data == new.data:
             self.add("<p>The two have the same bytes.</p>")
-        counts = {kind: sum(it.kind == kind for it in found) for kind in ("came", "went", "changed")}
+        counts = {kind: sum(it.kind == kind for it in found.files) for kind in ("came", "went", "changed")}
         self.add("<p>", *[f'<span class="chip {kind}">{count} {kind}</span>' for kind, count in counts.items()], "</p>")
-        if found:
+        if found.came or found.went:
+            self.add(f"<p>Of the parts that are not read, {found.came} came or changed, and {found.went} went.</p>")
+        if found.files:
             self.changes(found)
         self.add("</section>")
 
-    def changes(self, found: list[Change]) -> None:
+    def changes(self, found: Changes) -> None:
         """Adds the table of the files that came, went or changed."""
         self.add('<div class="wide"><table>')
         self.add('<tr><th><th>File<th class="n">Before<th class="n">Now<th class="n">By<th>In</tr>')
-        for it in found[:MOST_ROWS]:
-            row = it.new or it.old
-            sizes = [f'<td class="n">{amount(side.file.length) if side else "–"}' for side in (it.old, it.new)]
+        for it in self.up_to(MOST_ROWS, found.files, "rows of changes"):
+            sizes = [f'<td class="n">{amount(side.size) if side else "–"}' for side in (it.old, it.new)]
             by = f"{'+' if it.by > 0 else '−' if it.by < 0 else ''}{amount(abs(it.by))}"
-            name = breakable(self._names.file(row.file)) if row else ""
-            name = f'<a href="#{self.anchor(it.new)}">{name}</a>' if it.new else name
+            part = it.new or it.old
+            name = breakable(part.name) if part else ""
+            name = f'<a href="#{self.anchor(it.new.part)}">{name}</a>' if it.new else name
             self.add(
                 f'<tr><td><span class="chip {it.kind}">{it.kind}</span><td class="name">{name}'
                 f'{"".join(sizes)}<td class="n" title="{it.by:+,} bytes">{by}<td class="long dim">{text(it.where)}</tr>'
             )
         self.add("</table></div>")
+
+    def unread(self, lacks: list[Lack]) -> None:
+        """Adds the table of the parts that are not read."""
+        self.add(f'<section id="unread"><h2>Not read</h2><p>{text(sizes_of(lacks))}. An offset in an opened section')
+        self.add("counts from the first byte of its contents.</p>")
+        is_open = " open" * (len(lacks) <= MOST_OPEN)
+        self.add(f'<details{is_open}><summary>The parts</summary><div class="wide"><table><tr>')
+        self.add('<th class="n" colspan="2">Offset<th class="n">Size<th>What<th>Why<th>In</tr>')
+        for it in self.up_to(MOST_ROWS, lacks, "rows of parts that are not read"):
+            mark = f' <span class="chip {it.mark}">{it.mark}</span>' if it.mark else ""
+            where = text(it.where or "the image")
+            where = f'<a href="#{self.anchor(it.near)}">{where}</a>' if it.near else where
+            size = f'<td class="n" title="{it.part.length:,} bytes">{amount(it.part.length)}'
+            self.add(
+                f"<tr>{offset_cells(it.part.offset)}{size}<td>{text(it.what)}{mark}"
+                f'<td class="long dim">{text(it.reason)}<td class="long">{where}</tr>'
+            )
+        self.add("</table></div></details></section>")
 
     def legend(self) -> str:
         """Returns the legend of the colours on the page."""
@@ -392,21 +503,40 @@ class Page:
         return f'<p class="legend">{"".join(shown)}</p>'
 
     def whole(self, head: str, title: str) -> str:
-        """Returns the page."""
-        start = START.replace("@TITLE@", text(title)).replace("@STYLE@", STYLE)
-        return "\n".join([start, head, *self._lines, "</body></html>\n"])
+        """Returns the page. A link to something that is left out leads nowhere."""
+        parts = {"TITLE": text(title), "STYLE": STYLE}
+        start = re.sub("@([A-Z]+)@", lambda it: parts[it[1]], START)
+        body = "\n".join(self._lines)
+        body = re.sub(' href="#([vf][0-9]+)"', lambda it: it[0] if it[1] in self._placed else "", body)
+        return "\n".join([start, head, body, "</body></html>\n"])
 
 
-def page_of(names: SheetNames, drawing: Drawing, other: Drawing | None, found: list[Change]) -> str:
+def read_of(lacks: list[Lack], place: str = "") -> str:
+    """Returns a line that says whether everything was read. It may lead to a place."""
+    if not lacks:
+        return '<span class="chip good">Everything was read.</span>'
+    tag, link = ("a", f' href="{place}"') if place else ("span", "")
+    return f'<{tag} class="chip bad"{link}>Not read: {text(sizes_of(lacks))}</{tag}>'
+
+
+def sizes_of(lacks: list[Lack]) -> str:
+    """Returns how many parts are not read, and how many bytes they have."""
+    return f"{len(lacks):,} part{'s' * (len(lacks) != 1)}, {bytes_of(bytes_in(lacks))}"
+
+
+def page_of(drawing: Drawing, other: Drawing | None, found: Changes) -> str:
     """Returns the page of an image, which shows what changed since the other image if there is one."""
-    page = Page(names)
+    page = Page()
     page.flash(drawing)
     if other:
         page.against(other, drawing, found)
+    if drawing.lacks:
+        page.unread(drawing.lacks)
     for sheet in drawing.sheets:
         page.volume(sheet)
     name = name_of(drawing.path, other.path if other else None)
-    return page.whole(page.head(drawing, name, drawing.is_cut or bool(other and other.is_cut)), name)
+    cuts = drawing.cuts + [f"before, {it}" for it in (other.cuts if other else [])]
+    return page.whole(page.head(drawing, name, cuts), name)
 
 
 START = """<!doctype html>

@@ -231,9 +231,10 @@ def volumes_in(sections: Iterable[Section]) -> Iterator[Volume]:
 
 
 def _places_read_apart(sections: Iterable[Section]) -> Iterator[tuple[int, int]]:
-    """Yields where the bodies of the sections begin and end whose bytes are read as a volume, or may be opened."""
+    """Yields where the bodies of the sections begin and end in which no header of a volume is looked for: they are read
+    as a volume, may be opened, or are code. (Drivers of variables have the header of a store that they make.)"""
     for it in leaves(sections):
-        if it.volume or it.is_packed:
+        if it.volume or it.is_packed or it.kind in names.CODE:
             yield it.offset, it.offset + it.length
 
 
@@ -465,7 +466,8 @@ class Reader:
         remains = list(_remains(volume))
         self._budget.count(len(remains))
         for inner in (it for file in volume.files for it in volumes_in(file.sections)):
-            self._add_unread(inner)
+            if not inner.fault:
+                self._add_unread(inner)
         places = [place for file in volume.files for place in _places_read_apart(file.sections)]
         start, end = volume.offset + SHORTEST_HEADER, volume.offset + volume.length
         headers = self._headers_between(volume.data, start, places, end)

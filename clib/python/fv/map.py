@@ -8,18 +8,24 @@ With --against, the page also shows what came, went and changed since OLD. Compr
 fixed files is drawn without their marks, and the page says which files are fixed. The texts of an image are not
 trusted: the page escapes them, and forbids scripts and anything from outside.
 
-Exit status 0: the page is written. 1: the page is written, but the image has no volume. 2: an image cannot be read, or
-exceeds a limit, and nothing is written. 3: the arguments are wrong. 4: the library libfv, the names or the output
-cannot be used."""
+The page says whether everything was read. If not, a table lists each part that was not read, with the reason: a
+rejected volume, a section that is not opened or whose checksum is wrong, a pad or a deleted file with contents, and
+bytes that are in no volume and are not erased.
+
+Exit status 0: the page is written, and everything was read. 1: the page is written, but an image has no volume, not
+everything of it was read, or it has more than is drawn. 2: an image cannot be read, or exceeds a limit, and nothing is
+written. 3: the arguments are wrong, or the output is a terminal. 4: the library libfv, the names or the output cannot
+be used."""
 
 from __future__ import annotations
 
 import sys
+from collections.abc import Iterator
 from pathlib import Path
 
 from . import cli, images
 from ._page import MOST_VOLUMES, page_of
-from ._sheet import Drawing, SheetNames, changes, drawing_of
+from ._sheet import Changes, Drawing, bytes_in, changes, drawing_of
 from .limits import Full
 from .names import EDK2, Names
 from .shown import printable
@@ -27,20 +33,28 @@ from .shown import printable
 NAME = "fv-map"
 
 
-def draw(image: Drawing, against: Drawing | None, names: Names) -> str:
+def draw(image: Drawing, against: Drawing | None) -> str:
     """Returns the page of an image, which shows what changed since another image if there is one."""
-    shown = SheetNames(names)
-    found = changes(shown, against.sheets, image.sheets) if against else []
-    return page_of(shown, image, against, found)
+    return page_of(image, against, changes(against, image) if against else Changes())
 
 
-def drawing(path: str) -> Drawing:
+def drawing(path: str, names: Names) -> Drawing:
     """Returns the drawing of the image in a file."""
     try:
         image = images.read(cli.read_for(NAME, path))
     except Full as what:
         raise cli.Unread(f"{printable(path)}: not drawn: more than {what}") from None
-    return drawing_of(path, image, MOST_VOLUMES)
+    return drawing_of(path, image, names, MOST_VOLUMES)
+
+
+def complaints(image: Drawing) -> Iterator[str]:
+    """Yields the reasons why the page of an image is incomplete."""
+    if not image.sheets:
+        yield f"{image.path} has no volume"
+    if image.lacks:
+        yield f"{image.path}: not read: {len(image.lacks)} parts, {bytes_in(image.lacks)} bytes"
+    if image.cuts:
+        yield f"{image.path}: not all of it is shown"
 
 
 def parser() -> cli.Parser:
@@ -58,13 +72,16 @@ def parser() -> cli.Parser:
 def main(words: list[str]) -> int:
     """Runs the command."""
     given = parser().parse_args(words)
+    if sys.stdout.isatty():
+        cli.complain(NAME, "a page is not for a terminal: fv-map IMAGE > map.html")
+        return cli.WRONG_WORDS
     cli.limit_memory()
     names = Names([EDK2, *given.names])
-    image = drawing(given.image)
-    against = drawing(given.against) if given.against else None
-    sys.stdout.buffer.write(draw(image, against, names).encode())
+    image = drawing(given.image, names)
+    against = drawing(given.against, names) if given.against else None
+    sys.stdout.buffer.write(draw(image, against).encode())
     sys.stdout.buffer.flush()
-    if image.sheets:
-        return cli.DONE
-    cli.complain(NAME, f"{given.image} has no volume")
-    return cli.OTHER
+    lacking = [line for it in (image, against) if it for line in complaints(it)]
+    for line in lacking:
+        cli.complain(NAME, line)
+    return cli.OTHER if lacking else cli.DONE

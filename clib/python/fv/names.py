@@ -20,6 +20,8 @@ FILES = dict(enumerate(re.split(r",\s", FILE_NAMES), 0x01))
 # Types of sections.
 COMPRESSION, GUIDED, GROUP = 0x01, 0x02, 0x03
 PE32, TE, VERSION, UI, VOLUME, SUBTYPE = 0x10, 0x12, 0x14, 0x15, 0x17, 0x18
+PIC = 0x11
+CODE = (PE32, PIC, TE)
 DXE_DEPEX, PEI_DEPEX, MM_DEPEX = 0x13, 0x1B, 0x1C
 DEPEX = (DXE_DEPEX, PEI_DEPEX, MM_DEPEX)
 SECTIONS = {
@@ -27,7 +29,7 @@ SECTIONS = {
     GUIDED: "GUID-defined",
     GROUP: "group",
     PE32: "PE32",
-    0x11: "PIC",
+    PIC: "PIC",
     TE: "TE",
     DXE_DEPEX: "DXE depex",
     VERSION: "version",

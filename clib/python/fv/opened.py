@@ -31,6 +31,8 @@ BROTLI_STEP = 16  # bytes of a stream that are unpacked at a time: Python's brot
 BROTLI_PIECE = 1 << 24  # bytes that this few bytes may hold
 
 
+ERASED = bytes(1 << 16), b"\xff" * (1 << 16)
+
 # The reasons why a section is not opened that lie in the machine, and not in the image.
 OUT_OF_MEMORY, NO_BROTLI = "memory ran out", "brotli is not installed"
 OF_MACHINE = (OUT_OF_MEMORY, NO_BROTLI)
@@ -244,8 +246,10 @@ def frames(data: bytes, start: int, end: int) -> Iterator[Frame]:
 
 def is_erased(data: bytes, start: int, end: int) -> bool:
     """Returns whether all bytes at these places are 0x00, or all are 0xFF, or there are none."""
-    first = data[start : min(start + 1, end)]
-    return first in (b"", b"\0", b"\xff") and (not first or data.count(first, start, end) == end - start)
+    erased = next((it for it in ERASED if data.startswith(it[:1], start, end)), None)
+    if start >= end or erased is None:
+        return start >= end
+    return all(data.startswith(erased[: end - at], at, end) for at in range(start, end, len(erased)))
 
 
 def is_stream(data: bytes) -> bool:
