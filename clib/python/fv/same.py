@@ -9,12 +9,22 @@ name that begins with a hyphen comes after `--`.
 
 Each volume that differs or is rejected has a line, and after it each of its files: `changed`, `only in the first` or
 `only in the second`, the GUIDs of the files around it and its own GUID, and its name. A name in quotes is the text of
-its user interface section, and a name in parentheses is EDK II's name for its GUID.
+its user interface section, and a name in parentheses is EDK II's name for its GUID. If a volume is at another place in
+the second input, a line says from where to where it moved.
+
+These bytes of a volume are outside of its meaning, so they may differ in inputs that are the same: pads; deleted,
+superseded and unfinished files; the fillers after files; the gaps between sections and around an extended header; the
+states and the places of files. So `same` does not say that the bytes are equal, or that nothing is hidden in a pad. If
+pads, fillers, or deleted, superseded or unfinished files hold other bytes, a line says so, with the place. It does not
+change the verdict.
 
 With --json the output is an object: `verdict`; `fault`, why the inputs were not compared, or null; `is_other_layout`,
 whether the two have volumes at different offsets or of different lengths; `other_bytes`, the offset of the first byte
-outside of volumes that differs, or null; and `volumes`, each with its offsets, length, verdict, name, `difference` as
-`fvtool compare` writes it, faults, how many files are fixed on each side, and the files that differ.
+outside of volumes that differs, or null; `volumes`, each with its offsets, length, verdict, name, `difference` as
+`fvtool compare` writes it, faults, how many files are fixed on each side, and the files that differ; `moved`, the
+offsets and the length of each volume that is at another place; and `outside_meaning`, the bytes outside of the meaning
+that differ: what they are, the verdict, the offsets of their volume, the first byte that differs, and the files and
+sections around the volume.
 
 Exit status 0: `same`. 1: `different`, with a line for each part that differs. 2: `rejected`, since a volume is rejected
 and its bytes differ; or the inputs were not compared, since one cannot be read (`fault 25 at 0`), has more than 1 GiB
@@ -23,14 +33,19 @@ library libfv cannot be used, or the output cannot be written."""
 
 from __future__ import annotations
 
+import contextlib
+import hashlib
 import json
+from collections import Counter
 from collections.abc import Callable, Iterable, Iterator, Sequence
 from dataclasses import asdict, dataclass, field
+from itertools import zip_longest
 from typing import Any
 
 from . import cli
-from ._calls import image_scan, volume_compare
-from .images import Content, File, Opened, Reader, Section, Volume, leaves, volumes_in
+from ._calls import volume_compare, volume_digest
+from ._errors import FaultError
+from .images import REMAINS, Content, File, Opened, Reader, Section, Unread, Volume, leaves, volumes_in
 from .limits import Full, Limits
 from .names import Names
 from .shown import indented, printable, quoted
@@ -40,6 +55,8 @@ SAME, DIFFERENT, REJECTED = "same", "different", "rejected"
 ONLY_FIRST, ONLY_SECOND = "only in the first", "only in the second"
 EQUAL_BYTES, OTHER_BYTES = "equal bytes", "bytes differ"
 NOT_OPENED = "not opened"
+OUTSIDE = [*(what for what, _ in REMAINS.values()), "filler"]  # bytes that are not read, outside of the meaning
+MOST_ASIDES = 20  # lines about bytes outside of the meaning
 STATUS = {SAME: cli.DONE, DIFFERENT: cli.OTHER, REJECTED: cli.REJECTED}
 
 
@@ -89,6 +106,29 @@ class Inside:
 
 
 @dataclass
+class Move:
+    """A volume with the same meaning at another place: its offsets in the two inputs."""
+
+    offset: int
+    other_offset: int
+    length: int
+
+
+@dataclass
+class Aside:
+    """Bytes that are outside of the meaning of two volumes: what they are; whether they differ, or only one volume has
+    them; the offsets of the volumes; and the offset of the first byte that differs, in the second input if only that
+    has them. `within` are the files and the opened sections around the volumes."""
+
+    what: str
+    verdict: str
+    offset: int
+    other_offset: int
+    first_byte: int
+    within: list[str]
+
+
+@dataclass
 class Report:
     """The result for two inputs. `other_bytes` is the offset of the first byte outside of volumes that differs."""
 
@@ -97,14 +137,27 @@ class Report:
     is_other_layout: bool = False
     volumes: list[Pair] = field(default_factory=list)
     other_bytes: int | None = None
+    moved: list[Move] = field(default_factory=list)
+    outside_meaning: list[Aside] = field(default_factory=list)
 
 
-def compare_images(first: bytes, second: bytes, is_open: bool = False, limits: Limits = Limits()) -> Report:
-    """Returns the differences between two images. Raises Full if one of them exceeds a limit."""
+def compare_images(
+    first: bytes,
+    second: bytes,
+    is_open: bool = False,
+    limits: Limits = Limits(),
+    note: Callable[[int], None] = lambda number: None,
+) -> Report:
+    """Returns the differences between two images. `note` takes the number of an image that has no volume. Raises Full
+    if one of them exceeds a limit."""
     if first == second:
         return Report()
     readers = Reader(first, limits), Reader(second, limits)
-    return Comparison(readers, is_open, Names()).report(readers[0].image(), readers[1].image())
+    images = readers[0].image(), readers[1].image()
+    for number, image in enumerate(images):
+        if not image.volumes:
+            note(number)
+    return Comparison(readers, is_open, Names()).report(*images)
 
 
 class Comparison:
@@ -114,6 +167,8 @@ class Comparison:
         self._readers = readers
         self._is_open = is_open
         self._names = names
+        self._asides: list[Aside] = []
+        self._within: list[str] = []  # the files and the opened sections around the volumes that are compared now
 
     def report(self, first: Content, second: Content) -> Report:
         """Returns the differences between the two images."""
@@ -129,6 +184,9 @@ class Comparison:
                 report.volumes.append(Pair(at, at, volume.length, verdict, fixed=fixed))
         if not report.is_other_layout:
             report.other_bytes = _other_bytes(first, second)
+        alone = ([it for at, it in one.items() if at not in two] for one, two in ((old, new), (new, old)))
+        report.moved = _moves(*alone)
+        report.outside_meaning = self._asides
         report.verdict = _verdict(report)
         return report
 
@@ -144,7 +202,31 @@ class Comparison:
             pair.verdict, pair.difference = DIFFERENT, difference
             pair.files = self._changes(old, new, [], depth)
             pair.is_other_order = [it.guid for it in old.files] != [it.guid for it in new.files]
+        if not pair.faults:
+            self._note_asides(old, new)
         return pair
+
+    def _note_asides(self, old: Volume, new: Volume) -> None:
+        """Notes the bytes outside of the meaning that differ between two volumes, and between the volumes in their
+        files. The contents of sections that were opened are compared as volumes of their own."""
+        if old.body == new.body:
+            return
+        self._asides += _asides(old, new, list(self._within))
+        files = {it.guid: it for it in new.files}
+        for file in old.files:
+            other = files.get(file.guid)
+            with self._around(str(file.guid)):
+                for one, two in zip(volumes_in(file.sections), volumes_in(other.sections if other else [])):
+                    self._note_asides(one, two)
+
+    @contextlib.contextmanager
+    def _around(self, what: str) -> Iterator[None]:
+        """Adds a file or an opened section around the volumes that the block compares."""
+        self._within.append(what)
+        try:
+            yield
+        finally:
+            self._within.pop()
 
     def _changes(self, first: Volume, second: Volume, around: list[str], depth: int) -> list[Change]:
         """Returns the files that differ between two volumes."""
@@ -165,13 +247,14 @@ class Comparison:
         inner: list[Change] = []
         is_changed = _own(old) != _own(new)
         for one, two in zip(volumes_in(old.sections), volumes_in(new.sections)):
-            if volume_compare(one.body, two.body):
+            if _difference(one, two):
                 files = self._changes(one, two, [*around, str(new.guid)], depth)
                 is_changed = is_changed or not files
                 inner += files
         if not is_changed:
             return inner
-        opened = self._opened(old.sections, new.sections, depth) if self._is_open else []
+        with self._around(str(new.guid)):
+            opened = self._opened(old.sections, new.sections, depth) if self._is_open else []
         change = self._change("changed", new, around)
         change.sections, change.opened = _other_sections(old.sections, new.sections), opened
         return [change, *inner]
@@ -192,14 +275,16 @@ class Comparison:
     def _inside(self, old: Opened, new: Opened, depth: int) -> Inside:
         """Returns the differences between the contents of two sections."""
         volumes = old.every_volume(), new.every_volume()
-        pairs = [self._pair(one, two, depth) for one, two in zip(*volumes)]
         found = Inside(new.way.name, DIFFERENT, None, _other_sections(old.sections, new.sections))
-        found.volumes = [it for it in pairs if it.verdict not in (SAME, EQUAL_BYTES)]
-        found.opened = self._opened(old.sections, new.sections, depth)
+        with self._around(new.way.name):
+            pairs = [self._pair(one, two, depth) for one, two in zip(*volumes)]
+            found.volumes = [it for it in pairs if it.verdict not in (SAME, EQUAL_BYTES)]
+            found.opened = self._opened(old.sections, new.sections, depth)
         others = [[it.body for it in opened.others] for opened in (old, new)]
-        is_like = old.way == new.way and len(volumes[0]) == len(volumes[1]) and others[0] == others[1]
+        is_like = len(volumes[0]) == len(volumes[1]) and others[0] == others[1]
         if is_like and not found.sections and not found.volumes:
             found.verdict = SAME
+            found.how += f" in place of {old.way.name}" if old.way != new.way else ""
         return found
 
 
@@ -215,6 +300,55 @@ def first_difference(one: bytes, two: bytes) -> int:
     return low
 
 
+def _moves(first: list[Volume], second: list[Volume]) -> list[Move]:
+    """Returns the volumes of one image that mean the same as a volume at another place of the other image. Each volume
+    is in one move."""
+    left: dict[Any, list[Volume]] = {}
+    for volume in second:
+        left.setdefault(_meaning(volume), []).append(volume)
+    moves = []
+    for volume in first:
+        if places := left.get(_meaning(volume)):
+            moves.append(Move(volume.offset, places.pop(0).offset, volume.length))
+    return moves
+
+
+def _meaning(volume: Volume) -> Any:
+    """Returns a value that is equal for two volumes with the same meaning: the digest of the canonical image, and which
+    files are fixed. For a rejected volume it is a digest of the bytes."""
+    with contextlib.suppress(FaultError):
+        if not volume.fault:
+            return volume_digest(volume.plain), tuple(it.is_fixed for it in volume.files)
+    return hashlib.sha256(volume.body).digest(), None
+
+
+def _asides(old: Volume, new: Volume, within: list[str]) -> list[Aside]:
+    """Returns the bytes outside of the meaning that differ between two volumes, wherever they lie in the volumes."""
+    first, second = ([it for it in volume.unread if it.what in OUTSIDE] for volume in (old, new))
+    left, right = _only_in(first, second), _only_in(second, first)
+    found = []
+    for what in OUTSIDE:
+        for one, two in zip_longest(*([it for it in side if it.what == what] for side in (left, right))):
+            if one and two:
+                verdict, first_byte = DIFFERENT, one.offset + first_difference(one.body, two.body)
+            else:
+                verdict, first_byte = (ONLY_FIRST, one.offset) if one else (ONLY_SECOND, two.offset)
+            found.append(Aside(what, verdict, old.offset, new.offset, first_byte, within))
+    return found
+
+
+def _only_in(one: list[Unread], two: list[Unread]) -> list[Unread]:
+    """Returns the bytes of a list without those of another list."""
+    others = Counter((it.what, it.body) for it in two)
+    found = []
+    for it in one:
+        if others[it.what, it.body] > 0:
+            others[it.what, it.body] -= 1
+        else:
+            found.append(it)
+    return found
+
+
 def _verdict(report: Report) -> str:
     """Returns the verdict of a report."""
     verdicts = {it.verdict for it in report.volumes} - {SAME, EQUAL_BYTES}
@@ -228,9 +362,25 @@ def _difference(old: Volume, new: Volume) -> str | None:
     marks of files differ, names the attributes of the first of these files. Returns None if nothing differs."""
     if old.body == new.body:
         return None
-    marks = (one.is_fixed != two.is_fixed for one, two in zip(old.files, new.files))
-    marked = (f"different at file {number} attributes" for number, differ in enumerate(marks) if differ)
-    return volume_compare(old.plain, new.plain) or next(marked, None)
+    marks = (f"different at {it} attributes" for it in _other_marks(old, new))
+    return volume_compare(old.plain, new.plain) or next(marks, None)
+
+
+def _other_marks(old: Volume, new: Volume) -> Iterator[str]:
+    """Yields the steps down to each file that is marked fixed in only one of two volumes."""
+    for number, (one, two) in enumerate(zip(old.files, new.files)):
+        if one.is_fixed != two.is_fixed:
+            yield f"file {number}"
+        yield from (f"file {number} {it}" for it in _marks_under(one.sections, two.sections))
+
+
+def _marks_under(old: list[Section], new: list[Section]) -> Iterator[str]:
+    """Yields the steps down to each file in sections that is marked fixed on only one side."""
+    for number, (one, two) in enumerate(zip(old, new)):
+        found = _marks_under(one.sections, two.sections)
+        if one.volume and two.volume:
+            found = _other_marks(one.volume, two.volume)
+        yield from (f"section {number} {it}" for it in found)
 
 
 def _faults(old: Volume, new: Volume) -> list[str]:
@@ -284,8 +434,23 @@ def report_lines(report: Report) -> Iterator[str]:
         yield "the volumes are at other places, or have other lengths"
     for pair in report.volumes:
         yield from _pair_lines(pair)
+    for move in report.moved:
+        yield f"moved from {move.offset} to {move.other_offset}: volume length {move.length}, the meaning is the same"
     if report.other_bytes is not None:
         yield f"other bytes differ, first at {report.other_bytes}"
+    yield from map(_aside_line, report.outside_meaning[:MOST_ASIDES])
+    if len(report.outside_meaning) > MOST_ASIDES:
+        yield f"bytes outside the meaning differ at {len(report.outside_meaning) - MOST_ASIDES} more places"
+
+
+def _aside_line(aside: Aside) -> str:
+    """Returns the line about bytes outside of the meaning that differ."""
+    article = "an" if aside.what[:1] in "aeiou" else "a"
+    place = aside.other_offset if aside.verdict == ONLY_SECOND else aside.offset
+    within = f" in {'/'.join(aside.within)}" if aside.within else ""
+    where = "first" if aside.verdict == DIFFERENT else f"{aside.verdict},"
+    what = f"{article} {aside.what} of the volume at {place}{within}, {where} at {aside.first_byte}"
+    return f"bytes outside the meaning differ: {what}"
 
 
 def _pair_lines(pair: Pair) -> Iterator[str]:
@@ -327,13 +492,13 @@ def _inside_lines(inside: Inside) -> Sequence[str]:
 
 def compare_files(names: Sequence[str], is_open: bool, say: Callable[[str], None]) -> Report:
     """Compares two files, and returns the report. `say` takes a remark about a file."""
+    def note(number: int) -> None:
+        """Says that an input has no volume."""
+        say(f"{printable(names[number])} has no volume, so its bytes are compared")
+
     try:
         first, second = (cli.read(name, say, Limits().total) for name in names)
-        if first != second:
-            for name, image in zip(names, (first, second)):
-                if not image_scan(image):
-                    say(f"{printable(name)} has no volume, so its bytes are compared")
-        return compare_images(first, second, is_open)
+        return compare_images(first, second, is_open, note=note)
     except cli.Unread as line:
         return Report(REJECTED, str(line))
     except Full as what:

@@ -9,11 +9,15 @@ which is the driver as it was built. Its reference is the path that fv-unpack gi
 there is no date, and the serial number follows from the digest of the image.
 
 The bill names what is there, by digests. It does not name the supplier, the licence or the source of a file, because an
-image does not contain them. If a part is rejected or not opened, the bill says that it is incomplete.
+image does not contain them. If the image was not read whole, the bill says that it is incomplete. After the files it
+then has a component of the type `file` for each part that is not read, with its digest and the reason: a rejected
+volume, a section that is not opened or whose contents may be wrong, a pad with contents, a deleted file, a variable
+store, and other bytes in no volume that are not erased.
 
-Exit status 0: the bill is complete. 1: the image has no volume, or a section is not opened. 2: a volume is rejected, or
-the image cannot be read or exceeds a limit; without a bill in the last two cases. 3: the arguments are wrong. 4: the
-library libfv cannot be used, the output cannot be written, or memory ran out."""
+Exit status 0: the bill is complete. 1: the image has no volume, a section is not opened or its contents may be wrong,
+or bytes are not read. 2: a volume is rejected, or the image cannot be read or exceeds a limit; without a bill in the
+last two cases. 3: the arguments are wrong. 4: the library libfv cannot be used, the output cannot be written, or memory
+ran out."""
 
 from __future__ import annotations
 
@@ -25,10 +29,10 @@ from collections.abc import Iterable
 from typing import Any
 
 from . import __version__, cli, images
+from ._parts import Entry, entries
 from .images import File, every_leaf
 from .names import PE32, TE, Names
 from .shown import printable
-from .unpack import Entry, entries
 
 NAME = "fv-sbom"
 SPACE = uuid.UUID("5ba5b0f3-5f5a-4a53-9d1c-6f5f2b1c7d10")  # the name space of the serial numbers
@@ -38,35 +42,59 @@ def bill(name: str, data: bytes, parts: Iterable[Entry]) -> dict[str, Any]:
     """Returns the bill of materials of an image with these parts."""
     found = list(parts)
     image = component("image", name, hashlib.sha256(data).hexdigest())
-    is_complete = all(it.status == cli.DONE for it in found)
     tool = {"type": "application", "name": NAME, "version": __version__}
+    files = [of_file(it, it.part) for it in found if it.what == "file" and isinstance(it.part, File)]
     return {
         "bomFormat": "CycloneDX",
         "specVersion": "1.5",
         "serialNumber": f"urn:uuid:{uuid.uuid5(SPACE, image['hashes'][0]['content'])}",
         "version": 1,
         "metadata": {"component": image, "tools": {"components": [tool]}},
-        "components": [of_file(it, it.part) for it in found if it.what == "file" and isinstance(it.part, File)],
-        "compositions": [{"aggregate": "complete" if is_complete else "incomplete", "assemblies": ["image"]}],
+        "components": [*files, *(of_unread(it) for it in found if it.status != cli.DONE)],
+        "compositions": [{"aggregate": "incomplete" if status_of(found) else "complete", "assemblies": ["image"]}],
     }
 
 
-def component(reference: str, name: str, sha256: str, **more: Any) -> dict[str, Any]:
+def status_of(parts: Iterable[Entry]) -> int:
+    """Returns the exit status for an image with these parts."""
+    found = list(parts)
+    least = cli.DONE if any(it.what == "volume" for it in found) else cli.OTHER
+    return max([least, *(it.status for it in found)])
+
+
+def component(reference: str, name: str, sha256: str, kind: str = "firmware", **more: Any) -> dict[str, Any]:
     """Returns a component."""
     hashes = [{"alg": "SHA-256", "content": sha256}]
-    return {"type": "firmware", "bom-ref": reference, "name": printable(name), **more, "hashes": hashes}
+    return {"type": kind, "bom-ref": reference, "name": printable(name), **more, "hashes": hashes}
 
 
 def of_file(entry: Entry, file: File) -> dict[str, Any]:
     """Returns the component of a file."""
-    properties = [("guid", str(file.guid)), ("type", file.type_name), ("offset", f"0x{file.offset:x}")]
-    properties.append(("in", entry.within))
+    found = [("guid", str(file.guid)), *_place_of(entry)]
     for section in every_leaf(file.sections):
         if section.kind in (PE32, TE):
-            properties.append((f"{section.type_name}:sha256", hashlib.sha256(section.body).hexdigest()))
+            found.append((f"{section.type_name}:sha256", entry.digests.of(section)))
     version = {"version": printable(file.version)} if file.version else {}
-    shown = [{"name": f"uefi:{name}", "value": value} for name, value in properties]
-    return {**component(entry.path, entry.name or str(file.guid), entry.digest, **version), "properties": shown}
+    made = component(entry.path, entry.name or str(file.guid), entry.digest, **version)
+    return {**made, "properties": _properties(found)}
+
+
+def of_unread(entry: Entry) -> dict[str, Any]:
+    """Returns the component of a part that is not read, or of a section whose contents may be wrong."""
+    guid = [("guid", str(entry.guid))] if entry.guid else []
+    name = entry.name or entry.path.rstrip("/").rpartition("/")[2]
+    found = [*guid, *_place_of(entry), ("note", entry.note)]
+    return {**component(entry.path, name, entry.digest, "file"), "properties": _properties(found)}
+
+
+def _place_of(entry: Entry) -> list[tuple[str, str]]:
+    """Returns the type of a part and its place."""
+    return [("type", entry.kind or entry.what), ("offset", f"0x{entry.part.offset:x}"), ("in", entry.within)]
+
+
+def _properties(found: Iterable[tuple[str, str]]) -> list[dict[str, str]]:
+    """Returns the properties of a component."""
+    return [{"name": f"uefi:{name}", "value": value} for name, value in found]
 
 
 def parser() -> cli.Parser:
@@ -84,4 +112,4 @@ def main(words: list[str]) -> int:
     data = cli.read_for(NAME, given.image)
     parts = list(entries(images.read(data), Names()))
     print(json.dumps(bill(os.path.basename(given.image), data, parts), indent=2))
-    return max((it.status for it in parts if it.what != "outside"), default=cli.OTHER)
+    return status_of(parts)

@@ -1,194 +1,68 @@
 # SPDX-License-Identifier: BSD-2-Clause-Patent
-"""Unpacks a flash image or a firmware volume into files, or lists its parts.
+"""Unpacks a flash image or a firmware volume into files, lists its parts, or writes one of them.
 
 FOLDER gets a folder for each volume at every level. That folder has a folder for each file, and in it a file for each
 section, such as `02-DXEFV/001-DxeCore/pe32.efi`; the second section of a type is `pe32-2.efi`. The data of a file
 without sections are `body.bin`. Compressed sections are opened, and their contents are in folders such as `lzma`. A
 section that is not opened is written as it is, and so are bytes outside of volumes, as `outside-OFFSET.bin`, unless all
-are equal. Standard output has a line for each volume, and for each section that is not opened.
+of them are 0x00 or all are 0xFF.
+
+An image is read whole, or the output says what is not read. Further files have the bytes of pads that are not erased,
+of deleted, superseded and unfinished files, and of what looks like the header of a volume but is not read as a volume,
+such as a variable store: `02-DXEFV/pad-00001234.bin` has its offset in its name. Standard output has a line for each
+volume, for each section that is not opened or whose contents may be wrong, and for all bytes that are not read, with
+the reason.
 
 FOLDER/index.tsv has a row for each part: its path, which ends with a slash if it is a folder; its offset, and where
 that counts from, the image or the folder of an opened section; what it is, its type, GUID, name, size and SHA-256; and
-a note: how a section was opened or why it was not, the fault of a volume, whether a file is fixed, a dependency
-expression as text.
+a note: how a section was opened or why it was not, why bytes are not read, the fault of a volume, whether a file is
+fixed, a dependency expression as text. A cell that a spreadsheet would take for a formula begins with an apostrophe.
 
 With --list nothing is written to files: standard output has a line for each part, with its offset, size, type and path.
 An offset after a plus sign counts from the first byte of the contents of the opened section around the part. --sums
 adds the SHA-256 digests. With --json each line is a JSON object with the columns of the index.
 
+With --only the bytes of one part are written to FILE, which must not exist, or to standard output, unless that is a
+terminal. PART is the name or the GUID of a file or of a volume; or one of these, a slash and the type of a section in
+the file, such as `DxeCore/PE32` or `DxeCore/dxe-depex`; or a path of the list. If several parts are called so, nothing
+is written, and standard error has their paths.
+
 Files that are marked fixed are unpacked as all others. A rejected volume becomes one file, `rejected.bin`, and the
 others are unpacked. FOLDER must not exist, or must be empty. It gets its contents when everything is written, so it is
-never incomplete. An image is not trusted: at most N bytes are written (1 GiB without --most), at most 1,000 sections
-are opened, and at most 100,000 parts are read. A file name that begins with a hyphen comes after `--`.
+never incomplete. Each file is new and no link is followed, so nothing outside of FOLDER is written to, even if other
+users may write to FOLDER; but they may then change what is in it. An image is not trusted: at most N bytes are written,
+with the index (1 GiB without --most), at most 1,000 sections are opened, and at most 100,000 parts are read. A file
+name that begins with a hyphen comes after `--`.
 
-Exit status 0: everything is unpacked. 1: the image has no volume, or a section is not opened. 2: a volume is rejected;
-or there is no FOLDER, since the image cannot be read, exceeds a limit, or memory ran out. 3: the arguments are wrong,
-or FOLDER is not empty. 4: the library libfv, FOLDER or the output cannot be used."""
+Exit status 0: everything is unpacked, or the part is written. 1: the image has no volume, a section is not opened or
+its contents may be wrong, or bytes are not read; or --only names no part, or several. 2: a volume is rejected; or there
+is no FOLDER, since the image cannot be read, exceeds a limit, or memory ran out. 3: the arguments are wrong, FOLDER is
+not empty, FILE exists, or --only would write to a terminal. 4: the library libfv, FOLDER or the output cannot be
+used."""
 
 from __future__ import annotations
 
-import contextlib
-import hashlib
+import argparse
 import json
 import os
-import shutil
-import tempfile
-import uuid
-from collections import Counter
-from collections.abc import Iterable, Iterator
-from dataclasses import dataclass, replace
+import sys
+from collections.abc import Iterable, Iterator, Sequence
 from pathlib import Path
 from typing import Any
 
 from . import cli, images
-from .images import Content, File, Part, Section, Volume
+from ._folder import ROOM, Tree, filled_at_end
+from ._parts import IMAGE, Entry, file_words
+from ._parts import entries as entries
 from .limits import Full, Limits
-from .names import DEPEX, PE32, TE, Names
+from .names import Names
 from .shown import file_name, printable
 
 NAME = "fv-unpack"
-IMAGE = "image"  # `within` of a part that is not in an opened section: its offset counts from the image's start
+USAGES = "[--most N] IMAGE FOLDER", "--list [--sums] [--json] [--most N] IMAGE", "--only PART [--most N] IMAGE [FILE]"
 INDEX = "index.tsv"
-ROOM = ".fv-unpack"  # the folder that a run writes to until everything is written
-
-
-@dataclass(frozen=True)
-class Entry:
-    """A part of an image: its path (the path of a folder ends with a slash), from where its offset counts (`within`:
-    the image, or the folder of an opened section), its kind, its type, its GUID and its name, and a note. `line` is a
-    line of text about it, and `status` the least status of a run that unpacks it."""
-
-    path: str
-    part: Part
-    within: str
-    what: str
-    kind: str = ""
-    guid: uuid.UUID | None = None
-    name: str = ""
-    note: str = ""
-    line: str = ""
-    status: int = cli.DONE
-
-    @property
-    def is_folder(self) -> bool:
-        """Returns whether other parts are in it, each with its own entry."""
-        return self.path.endswith("/")
-
-    @property
-    def digest(self) -> str:
-        """Returns the SHA-256 digest of the bytes of the part."""
-        return hashlib.sha256(self.part.body).hexdigest()
-
-
-@dataclass(frozen=True)
-class Place:
-    """The place of parts: from where their offsets count, and the name of the file around them."""
-
-    within: str = IMAGE
-    holder: str = ""
-
-
-def entries(image: Content, names: Names) -> Iterator[Entry]:
-    """Yields the parts of an image that was read with its sections opened."""
-    return _Walk(names).image(image)
-
-
-class _Walk:
-    """A walk through an image, which counts the volumes."""
-
-    def __init__(self, names: Names) -> None:
-        self._names = names
-        self._volumes = 0
-
-    def image(self, image: Content) -> Iterator[Entry]:
-        """Yields the parts of an image."""
-        for volume in image.volumes:
-            yield from self._volume(volume, Place())
-        yield from _others(image, "", IMAGE)
-
-    def _volume(self, volume: Volume, place: Place) -> Iterator[Entry]:
-        """Yields a volume, and its files."""
-        name = self._names.of(volume.guid)
-        path = f"{self._volumes:02}-{file_name(name or place.holder or str(volume.guid or 'volume'))}"
-        self._volumes += 1
-        about = f"{path}: volume at 0x{volume.offset:x}" + (f" in {place.within}" if place.within != IMAGE else "")
-        entry = Entry(f"{path}/", volume, place.within, "volume", volume.type_name, volume.guid, name)
-        if volume.fault:
-            fault = str(volume.fault)
-            line = f"{about}: {fault}"
-            yield replace(entry, path=f"{path}/rejected.bin", note=fault, line=line, status=cli.REJECTED)
-            return
-        fixed = f", {len(volume.fixed)} of them fixed" if volume.fixed else ""
-        yield replace(entry, line=f"{about}: {len(volume.files)} files{fixed}")
-        for number, file in enumerate(volume.files):
-            yield from self._file(file, f"{path}/{number:03}", place.within)
-
-    def _file(self, file: File, path: str, within: str) -> Iterator[Entry]:
-        """Yields a file, and its sections."""
-        name = file.name or self._names.of(file.guid)
-        path = f"{path}-{file_name(name or str(file.guid))}/"
-        note = "fixed" if file.is_fixed else ""
-        yield Entry(path, file, within, "file", file.type_name, file.guid, name, note)
-        if file.sections:
-            yield from self._sections(file.sections, path, Place(within, name))
-        elif file.length:
-            yield Entry(f"{path}body.bin", file, within, "data", file.type_name)
-
-    def _sections(self, sections: Iterable[Section], path: str, place: Place) -> Iterator[Entry]:
-        """Yields sections, and their contents, in a folder."""
-        counts: Counter[str] = Counter()
-        for section in sections:
-            if section.volume:
-                yield from self._volume(section.volume, place)
-            elif section.opened:
-                inner = f"{path}{_numbered(section.opened.way.folder, counts)}/"
-                yield from self._opened(section, section.opened, inner, place)
-            elif section.sections:
-                inner = f"{path}{_numbered('group', counts)}/"
-                yield Entry(inner, section, place.within, "section", section.type_name)
-                yield from self._sections(section.sections, inner, place)
-            else:
-                yield self._leaf(section, f"{path}{_numbered(_name_of(section), counts)}", place.within)
-
-    def _opened(self, section: Section, content: images.Opened, path: str, place: Place) -> Iterator[Entry]:
-        """Yields an opened section, and its contents."""
-        note = f"{content.way.name}: {len(content.data)} bytes"
-        yield Entry(path, section, place.within, "section", section.type_name, note=note)
-        inside = replace(place, within=path)
-        yield from self._sections(content.sections, path, inside)
-        for volume in content.volumes:
-            yield from self._volume(volume, inside)
-        yield from _others(content, path, path)
-
-    def _leaf(self, section: Section, path: str, within: str) -> Entry:
-        """Returns a section that holds bytes, or that is not opened."""
-        entry = Entry(path, section, within, "section", section.type_name)
-        if section.closed:
-            note = f"not opened: {section.closed}"
-            return replace(entry, note=note, line=f"{path}: {note}", status=cli.OTHER)
-        return replace(entry, note=self._names.depex(section.body)) if section.kind in DEPEX else entry
-
-
-def _others(content: Content, folder: str, within: str) -> Iterator[Entry]:
-    """Yields the bytes that are in no volume and in no section, unless all are equal."""
-    for part in content.others:
-        body = part.body
-        if body != body[:1] * len(body):
-            yield Entry(f"{folder}outside-{part.offset:08x}.bin", part, within, "outside")
-
-
-def _numbered(name: str, counts: Counter[str]) -> str:
-    """Returns a file name, with a number if the folder has that name already."""
-    counts[name] += 1
-    stem, dot, ending = name.partition(".")
-    return name if counts[name] == 1 else f"{stem}-{counts[name]}{dot}{ending}"
-
-
-def _name_of(section: Section) -> str:
-    """Returns the file name for a section."""
-    ending = "efi" if section.kind in (PE32, TE) else "bin"
-    return f"{section.type_name.lower().replace(' ', '-')}.{ending}"
-
+FORMULA = "=", "+", "-", "@", "\t", "\r"  # with which a cell begins that a spreadsheet takes for a formula
+MOST_PATHS = 20  # that are listed if several parts have a name
 
 COLUMNS = ("path", "offset", "in", "part", "type", "guid", "name", "size", "sha256", "note")
 
@@ -202,78 +76,23 @@ def fields(entry: Entry) -> dict[str, Any]:
 
 
 def index_row(entry: Entry) -> str:
-    """Returns the row of a part in the index."""
+    """Returns the row of a part in the index. A spreadsheet takes no cell of it for a formula."""
     found = {**fields(entry), "offset": f"0x{entry.part.offset:x}", "sha256": entry.digest}
-    return "\t".join(str(found[column]) for column in COLUMNS)
+    cells = (str(found[column]) for column in COLUMNS)
+    return "\t".join(f"'{it}" if it.startswith(FORMULA) else it for it in cells)
 
 
-def write(found: Iterable[Entry], folder: Path) -> None:
+def write(found: Iterable[Entry], tree: Tree) -> None:
     """Writes parts to a new folder, and their index."""
-    folder.mkdir()
-    with open(folder / INDEX, "w", encoding="utf-8") as index:
-        print(*COLUMNS, sep="\t", file=index)
+    with tree.file(INDEX) as index:
+        tree.put(index, ("\t".join(COLUMNS) + "\n").encode())
         for entry in found:
-            path = folder / entry.path
-            (path if entry.is_folder else path.parent).mkdir(exist_ok=True)
-            if not entry.is_folder:
-                path.write_bytes(entry.part.body)
-            print(index_row(entry), file=index)
-
-
-@contextlib.contextmanager
-def filled_at_end(folder: Path) -> Iterator[Path]:
-    """Gives the block a path for a new folder. When the block ends, FOLDER has the contents of the new folder. If the
-    block raises an exception, nothing is left.
-
-    A FOLDER that exists stays the same folder with its owner and its mode, because it may be a mount point or the
-    current folder of a shell. So the new folder is made inside it, and its parts are moved, the index last. If there is
-    no FOLDER, the new folder is made beside it and renamed."""
-    is_there = folder.exists()
-    made = [it for it in folder.parents if not it.exists()]
-    room = None
-    try:
-        folder.parent.mkdir(parents=True, exist_ok=True)
-        with cli.undisturbed():
-            if is_there:
-                (folder / ROOM).mkdir()
-                room = folder / ROOM
+            if entry.is_folder:
+                tree.make(entry.path)
             else:
-                room = Path(tempfile.mkdtemp(prefix=f"{ROOM}-", dir=folder.parent))
-        yield room / "parts"
-        with cli.undisturbed():
-            if is_there:
-                _move_parts(room / "parts", folder)
-            else:
-                _rename(room / "parts", folder)
-        made = []
-    finally:
-        if room:
-            shutil.rmtree(room, ignore_errors=True)
-        for parent in made:
-            with contextlib.suppress(OSError):
-                parent.rmdir()
-
-
-def _rename(parts: Path, folder: Path) -> None:
-    """Gives a folder its name, unless another run has made a folder with that name and written to it."""
-    try:
-        parts.rename(folder)
-    except OSError as error:
-        raise OSError(f"{folder}: {error.strerror}") from None
-
-
-def _move_parts(parts: Path, folder: Path) -> None:
-    """Moves the contents of a folder to another folder, which contains only ROOM. If that fails, moves them back."""
-    if [it.name for it in folder.iterdir()] != [ROOM]:
-        raise FileExistsError(f"something else was written to {folder}")
-    moved: list[Path] = []
-    try:
-        for part in sorted(parts.iterdir(), key=lambda it: it.name == INDEX):
-            moved.append(part.rename(folder / part.name))
-    except OSError:
-        for it in moved:
-            it.rename(parts / it.name)
-        raise
+                part = entry.part
+                tree.write(entry.path, memoryview(part.data)[part.offset : part.offset + part.length])
+            tree.put(index, f"{index_row(entry)}\n".encode())
 
 
 def table(found: Iterable[Entry], with_digests: bool) -> Iterator[str]:
@@ -299,52 +118,142 @@ def objects(found: Iterable[Entry], with_digests: bool) -> Iterator[str]:
         yield json.dumps({**fields(entry), **({"sha256": entry.digest} if with_digests else {})})
 
 
+def missing(image: Iterable[Entry]) -> Iterator[str]:
+    """Yields a line for each part of an image that has no volume."""
+    for it in image:
+        what = f"{it.kind or 'bytes'} at 0x{it.part.offset:x}, {it.part.length} bytes"
+        yield f"{what}: not read: {it.note}"
+
+
+def chosen(found: Sequence[Entry], what: str) -> list[Entry]:
+    """Returns the parts with a path, a name or a GUID, or the sections of a type in the files with a name or a GUID."""
+    exact = [it for it in found if _is_called(it, what)]
+    name, slash, kind = what.rpartition("/")
+    if exact or not slash:
+        return exact
+    folders = {it.path for it in found if it.what == "file" and _is_called(it, name)}
+    return [it for it in found if _file_of(it) in folders and file_words(it.kind) == file_words(kind)]
+
+
+def _is_called(entry: Entry, what: str) -> bool:
+    """Returns whether a part has a path, or a file or a volume has a name or a GUID."""
+    if what.rstrip("/") == entry.path.rstrip("/"):
+        return True
+    if entry.what not in ("file", "volume"):
+        return False
+    name = entry.name
+    return what.lower() == str(entry.guid) or bool(name) and what in (name, printable(name), file_name(name))
+
+
+def _file_of(entry: Entry) -> str:
+    """Returns the folder of the file that has a section, and otherwise an empty text."""
+    volume, file, *inner = f"{entry.path}//".split("/")
+    return f"{volume}/{file}/" if entry.what == "section" and inner else ""
+
+
 def parser() -> cli.Parser:
     """Returns the arguments of the command."""
-    usage = f"{NAME} [--most N] IMAGE FOLDER\n       {NAME} --list [--sums] [--json] [--most N] IMAGE"
-    made = cli.Parser(NAME, __doc__, usage)
+    made = cli.Parser(NAME, __doc__, f"\n       {NAME} ".join(["", *USAGES]).strip())
     made.add_argument("image", metavar="IMAGE", help="a flash image or a firmware volume")
-    made.add_argument("folder", metavar="FOLDER", nargs="?", help="a folder that is empty or does not exist")
+    made.add_argument("folder", metavar="FOLDER", nargs="?", help="a folder that is empty or does not exist, or FILE")
     made.add_argument("--list", action="store_true", help="list the parts, and write no files")
     made.add_argument("--sums", action="store_true", help="list their SHA-256 digests too")
     made.add_argument("--json", action="store_true", help="list each part as a JSON object")
+    made.add_argument("--only", metavar="PART", help="write the bytes of one part to FILE, or to standard output")
     made.add_argument(
         "--most", metavar="N", type=cli.whole_number, default=Limits().total, help="the most bytes that are written"
     )
     return made
 
 
+def hindrance(given: argparse.Namespace) -> str:
+    """Returns why the output of a run cannot be written where it should be, or an empty text."""
+    if given.only:
+        if given.folder and os.path.lexists(given.folder):
+            return f"{given.folder} exists already: give the name of a new file"
+        is_screen = not given.folder and sys.stdout.isatty()
+        return "standard output is a terminal: give a FILE, or a pipe" if is_screen else ""
+    folder = Path(os.path.realpath(given.folder)) if given.folder else None
+    names = sorted(it.name for it in folder.iterdir()) if folder and folder.exists() else []
+    if names == [ROOM]:
+        way = f"it contains {ROOM}, which another run writes to, or which a run that was killed has left"
+        return f"{folder} is not empty: {way}: if no other run writes to it, remove {ROOM}"
+    more = f" and {len(names) - 1} more" if len(names) > 1 else ""
+    return f"{folder} is not empty: it contains {names[0]}{more}: give a new or an empty folder" if names else ""
+
+
+def run(given: argparse.Namespace) -> int:
+    """Reads the image, writes what is asked for, and returns the status."""
+    data = cli.read(given.image, lambda what: cli.complain(NAME, what), given.most)
+    image = images.read(data, Limits(total=given.most))
+    found = list(entries(image, Names()))
+    if given.only:
+        return write_only(found, given)
+    if not image.volumes:
+        print(f"{printable(given.image)}: no volume")
+        lines = objects(found, given.sums) if given.json else missing(found)
+        print(*lines, sep="\n", end="\n" if found else "")
+        return cli.OTHER
+    if given.folder:
+        with filled_at_end(Path(os.path.realpath(given.folder)), given.most, INDEX) as tree:
+            write(found, tree)
+        print(*(it.line for it in found if it.line), sep="\n")
+    else:
+        print(*(objects if given.json else table)(found, given.sums), sep="\n")
+    return max(it.status for it in found)
+
+
+def write_only(found: Sequence[Entry], given: argparse.Namespace) -> int:
+    """Writes the bytes of the only part that was asked for, and returns the status."""
+    parts = chosen(found, given.only)
+    if len(parts) != 1:
+        count = len(parts) or "no"
+        more = ": give the path of one of them" if parts else f" is called so in {given.image}"
+        cli.complain(NAME, f"--only {given.only}: {count} part{'s' if parts else ''}{more}")
+        for it in parts[:MOST_PATHS]:
+            cli.complain(NAME, it.path)
+        if len(parts) > MOST_PATHS:
+            cli.complain(NAME, f"and {len(parts) - MOST_PATHS} more")
+        return cli.OTHER
+    part = parts[0].part
+    body = memoryview(part.data)[part.offset : part.offset + part.length]
+    if given.folder:
+        write_new(given.folder, body)
+    else:
+        sys.stdout.buffer.write(body)
+    return cli.DONE
+
+
+def write_new(name: str, data: memoryview) -> None:
+    """Writes a new file. If that fails, nothing is left."""
+    with open(name, "xb") as file:
+        try:
+            file.write(data)
+            file.flush()
+        except BaseException:
+            os.unlink(name)
+            raise
+
+
 @cli.command(NAME)
 def main(words: list[str]) -> int:
     """Runs the command."""
     given = parser().parse_args(words)
-    if given.folder == "" or given.list == bool(given.folder) or (not given.list and (given.sums or given.json)):
-        parser().error("IMAGE and FOLDER are needed, or --list and IMAGE")
+    is_clear = given.list != bool(given.folder) if given.only is None else given.only != "" and not given.list
+    if given.folder == "" or not is_clear or (not given.list and (given.sums or given.json)):
+        parser().error("IMAGE and FOLDER are needed, or --list and IMAGE, or --only, PART and IMAGE")
     cli.limit_memory()
     cli.end_by_signals()
-    shown = printable(given.image)
-    folder = None if given.list else Path(os.path.realpath(given.folder))
-    if folder and folder.exists() and any(folder.iterdir()):
-        cli.complain(NAME, f"{folder} is not empty")
+    if reason := hindrance(given):
+        cli.complain(NAME, reason)
         return cli.WRONG_WORDS
     try:
-        data = cli.read(given.image, lambda what: cli.complain(NAME, what), given.most)
-        image = images.read(data, Limits(total=given.most))
-        if not image.volumes:
-            print(f"{shown}: no volume")
-            return cli.OTHER
-        found = list(entries(image, Names()))
-        if folder:
-            with filled_at_end(folder) as new:
-                write(found, new)
-            print(*(it.line for it in found if it.line), sep="\n")
-        else:
-            print(*(objects if given.json else table)(found, given.sums), sep="\n")
-        return max(it.status for it in found)
+        return run(given)
     except cli.Unread as line:
-        print(line)
+        end = str(line)
     except Full as what:
-        print(f"{shown}: not unpacked: more than {what}")
+        end = f"{printable(given.image)}: not unpacked: more than {what}"
     except MemoryError:
-        print(f"{shown}: fault 24 at 0")
+        end = f"{printable(given.image)}: fault 24 at 0"
+    print(end, file=sys.stderr if given.only else sys.stdout)
     return cli.REJECTED

@@ -1,0 +1,190 @@
+# SPDX-License-Identifier: BSD-2-Clause-Patent
+"""Writes files to FOLDER so that it gets all of them or none, even if another user may write to FOLDER or to a folder
+above it. All files are new, and no link is followed: each folder is opened by its name in the folder that holds it."""
+
+from __future__ import annotations
+
+import contextlib
+import os
+import secrets
+from collections.abc import Iterator
+from pathlib import Path
+from typing import IO
+
+from . import cli
+from .limits import Full
+
+ROOM = ".fv-unpack"  # the folder that a run writes to until everything is written
+PARTS, PROBE = "parts", "probe"  # in ROOM: the folder that becomes FOLDER, and a file that shows who owns new files
+# A folder as a place of other files: nothing is read from it, so it need not be readable.
+PLACE = os.O_PATH | os.O_DIRECTORY | os.O_NOFOLLOW | os.O_CLOEXEC
+READ = os.O_RDONLY | os.O_DIRECTORY | os.O_NOFOLLOW | os.O_CLOEXEC
+NEW = os.O_WRONLY | os.O_CREAT | os.O_EXCL | os.O_NOFOLLOW | os.O_CLOEXEC
+
+
+class Tree:
+    """A new folder to which files are written. Raises Full before more than `most` bytes are written."""
+
+    def __init__(self, top: int, most: int) -> None:
+        self._top = top
+        self._most = self._left = most
+
+    def make(self, path: str) -> None:
+        """Makes a folder, and the folders above it that are not there."""
+        with self._inside(path):
+            pass
+
+    def write(self, path: str, data: memoryview) -> None:
+        """Writes a new file, and makes the folders above it that are not there."""
+        with self.file(path) as file:
+            self.put(file, data)
+
+    @contextlib.contextmanager
+    def file(self, path: str) -> Iterator[IO[bytes]]:
+        """Gives the block a new file, for `put`."""
+        folder, _, name = path.rpartition("/")
+        with self._inside(folder) as holder, os.fdopen(os.open(name, NEW, 0o666, dir_fd=holder), "wb") as file:
+            yield file
+
+    def put(self, file: IO[bytes], data: bytes | memoryview) -> None:
+        """Writes bytes to a file of the folder."""
+        self._left -= len(data)
+        if self._left < 0:
+            raise Full(f"{self._most} bytes")
+        file.write(data)
+
+    @contextlib.contextmanager
+    def _inside(self, path: str) -> Iterator[int]:
+        """Gives the block a folder. Makes the folders on the way that are not there."""
+        with contextlib.ExitStack() as ending:
+            at = self._top
+            for name in filter(None, path.split("/")):
+                with contextlib.suppress(FileExistsError):
+                    os.mkdir(name, dir_fd=at)
+                at = _kept(os.open(name, PLACE, dir_fd=at), ending)
+            yield at
+
+
+@contextlib.contextmanager
+def filled_at_end(folder: Path, most: int, last: str) -> Iterator[Tree]:
+    """Gives the block a new folder for at most `most` bytes. When the block ends, FOLDER has the contents of the new
+    folder. If the block raises an exception, nothing is left. The path of FOLDER has no links.
+
+    A FOLDER that exists stays the same folder with its owner and its mode, because it may be a mount point or the
+    current folder of a shell. So the new folder is made inside it, and its parts are moved, the one with the name
+    `last` at the end. If there is no FOLDER, the new folder is made beside it and renamed."""
+    is_there = folder.exists()
+    name = ROOM if is_there else f"{ROOM}-{secrets.token_hex(4)}"
+    with contextlib.ExitStack() as ending:
+        with cli.undisturbed():
+            holder = _walk(folder if is_there else folder.parent, ending)
+            room = _new_room(name, holder, ending)
+            os.mkdir(PARTS, dir_fd=room)
+            parts = _kept(os.open(PARTS, READ, dir_fd=room), ending)
+        yield Tree(parts, most)
+        with cli.undisturbed():
+            if is_there:
+                _move_parts(parts, holder, folder, last)
+            else:
+                _rename(room, holder, folder)
+
+
+def _kept(folder: int, ending: contextlib.ExitStack) -> int:
+    """Returns the descriptor of a folder, which is closed at the end."""
+    ending.callback(os.close, folder)
+    return folder
+
+
+def _walk(path: Path, ending: contextlib.ExitStack) -> int:
+    """Returns a descriptor for a folder. Makes the folders on the way that are not there, and removes them at the end
+    if nothing is in them."""
+    at = _kept(os.open(path.anchor, PLACE), ending)
+    here = Path(path.anchor)
+    try:
+        for name in path.parts[1:]:
+            here /= name
+            try:
+                at = _kept(os.open(name, PLACE, dir_fd=at), ending)
+            except FileNotFoundError:
+                with contextlib.suppress(FileExistsError):
+                    os.mkdir(name, dir_fd=at)
+                    ending.callback(_remove, name, at)
+                at = _kept(os.open(name, PLACE, dir_fd=at), ending)
+    except OSError as error:
+        raise OSError(error.errno, error.strerror, str(here)) from None
+    return at
+
+
+def _new_room(name: str, holder: int, ending: contextlib.ExitStack) -> int:
+    """Returns a descriptor for a new folder into which only its owner may look. It is removed at the end. Raises an
+    error if something else has taken its place."""
+    os.mkdir(name, 0o700, dir_fd=holder)
+    ending.callback(_remove, name, holder)
+    room = _kept(os.open(name, READ, dir_fd=holder), ending)
+    probe = os.open(PROBE, NEW, 0o600, dir_fd=room)
+    try:
+        is_own = os.fstat(probe).st_uid == os.fstat(room).st_uid and os.listdir(room) == [PROBE]
+    finally:
+        os.close(probe)
+        os.unlink(PROBE, dir_fd=room)
+    if not is_own:
+        raise OSError(f"another user has put a folder in the place of {name}")
+    ending.callback(_empty_undisturbed, room)
+    return room
+
+
+def _remove(name: str, holder: int) -> None:
+    """Removes a folder if nothing is in it."""
+    with contextlib.suppress(OSError):
+        os.rmdir(name, dir_fd=holder)
+
+
+def _empty_undisturbed(folder: int) -> None:
+    """Removes what is in a folder, also if a signal comes."""
+    with cli.undisturbed():
+        _empty(folder)
+
+
+def _empty(folder: int) -> None:
+    """Removes what is in a folder, as far as that is possible."""
+    for name in os.listdir(folder):
+        with contextlib.suppress(OSError), contextlib.ExitStack() as ending:
+            try:
+                inner = _kept(os.open(name, READ, dir_fd=folder), ending)
+            except OSError:  # not a folder
+                os.unlink(name, dir_fd=folder)
+            else:
+                _empty(inner)
+                os.rmdir(name, dir_fd=folder)
+
+
+def _rename(room: int, holder: int, folder: Path) -> None:
+    """Gives a folder its name, unless another run has made a folder with that name and written to it."""
+    try:
+        os.rename(PARTS, folder.name, src_dir_fd=room, dst_dir_fd=holder)
+    except OSError as error:
+        raise OSError(f"{folder}: {error.strerror}") from None
+
+
+def _move_parts(parts: int, holder: int, folder: Path, last: str) -> None:
+    """Moves the contents of a folder to another folder, which contains only ROOM. If that fails, moves them back."""
+    if _names_in(holder) != [ROOM]:
+        raise FileExistsError(f"something else was written to {folder}")
+    moved: list[str] = []
+    try:
+        for name in sorted(os.listdir(parts), key=lambda it: it == last):
+            os.rename(name, name, src_dir_fd=parts, dst_dir_fd=holder)
+            moved.append(name)
+    except OSError:
+        for name in moved:
+            os.rename(name, name, src_dir_fd=holder, dst_dir_fd=parts)
+        raise
+
+
+def _names_in(place: int) -> list[str]:
+    """Returns the names in a folder that was opened as a place."""
+    folder = os.open(".", READ, dir_fd=place)
+    try:
+        return os.listdir(folder)
+    finally:
+        os.close(folder)
