@@ -32,7 +32,8 @@ python3 -B recipes/images.py "$room/made"
 # files that are installed beside them. WAY is the command that runs them, and FOLDER is for their output.
 tools_work() { # BIN MADE FOLDER [WAY..]
     local bin=$1 made=$2 parts=$3/parts way=("${@:4}" env -i PATH=/usr/bin:/bin) status=0
-    [[ $("${way[@]}" "$bin/fv-same" "$made/plain.fd" "$made/stored.fd") == same ]] || fail "fv-same does not say same"
+    said=$("${way[@]}" "$bin/fv-same" "$made/plain.fd" "$made/stored.fd")
+    [[ ${said%%$'\n'*} == same ]] || fail "fv-same says $said"
     "${way[@]}" "$bin/fv-same" --open "$made/firmware.fd" "$made/firmware-changed.fd" > "$room/said" || status=$?
     [[ $status == 1 && $(< "$room/said") == *'"Beta"'* ]] || fail "fv-same says $(< "$room/said")"
     "${way[@]}" "$bin/fv-unpack" "$made/firmware.fd" "$parts" > "$room/said" || true # a section of it is of an unknown kind
