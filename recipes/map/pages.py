@@ -289,7 +289,7 @@ def test_terminal() -> None:
     """Checks that no page is written to a terminal."""
     ours, terminal = pty.openpty()
     ran = subprocess.run(["fv-map", "images/plain.fd"], stdout=terminal, stderr=subprocess.PIPE, text=True, check=False)
-    assert ran.returncode == 3 and "fv-map IMAGE > map.html" in ran.stderr and ran.stderr.count("\n") == 1, ran
+    assert ran.returncode == 3 and "terminal: add `> FILE`" in ran.stderr and ran.stderr.count("\n") == 1, ran
     os.close(terminal)
     os.close(ours)
 

@@ -72,9 +72,7 @@ def parser() -> cli.Parser:
 def main(words: list[str]) -> int:
     """Runs the command."""
     given = parser().parse_args(words)
-    if sys.stdout.isatty():
-        cli.complain(NAME, "a page is not for a terminal: fv-map IMAGE > map.html")
-        return cli.WRONG_WORDS
+    cli.refuse_terminal(NAME, "a page")
     cli.limit_memory()
     names = Names([EDK2, *given.names])
     image = drawing(given.image, names)
