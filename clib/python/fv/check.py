@@ -39,10 +39,11 @@ from itertools import islice
 from typing import BinaryIO
 
 from . import cli
-from ._calls import image_check, volume_is_canonical, volume_unfix
+from ._calls import image_check, volume_is_canonical
 from ._errors import Fault, FaultError
 from ._native import LENGTH_MAX, FaultCode
 from ._types import VolumeCheck
+from .images import _unmarked
 from .limits import Full, Limits
 
 NAME = "fv-check"
@@ -119,7 +120,7 @@ def _verdict(data: bytes, check: VolumeCheck) -> tuple[int, str]:
     """Returns the status and the verdict of a volume."""
     at, fault, is_canonical, marks = check.offset, check.fault, check.canonical, ""
     place = fault.offset - at if fault else 0
-    if fault and fault.code == FaultCode.FIXED and not fault.depth:
+    if fault and fault.code == FaultCode.FIXED:
         fault, is_canonical, marks = *_without_marks(memoryview(data)[at : at + check.length]), " without marks"
         place = fault.offset if fault else 0
     if fault:
@@ -128,10 +129,10 @@ def _verdict(data: bytes, check: VolumeCheck) -> tuple[int, str]:
 
 
 def _without_marks(volume: memoryview) -> tuple[Fault | None, bool]:
-    """Checks a volume without the marks of its fixed files: returns its fault, and whether it is canonical. In a nested
-    volume, files keep their marks, so the volume is rejected."""
+    """Checks a volume without the marks of fixed files, also of those in nested volumes: returns its fault, and whether
+    it is canonical."""
     try:
-        return None, volume_is_canonical(volume_unfix(volume))
+        return None, volume_is_canonical(_unmarked(volume))
     except FaultError as error:
         return error.fault, False
 
