@@ -4,12 +4,13 @@
 # $room/volume is a volume of one file, and $room/flash a flash image of two copies of it. $room/wanted has the lines
 # that examples/volumes.* print for this image, and $room/made has the images of recipes/images.py.
 set -euo pipefail
+unset CDPATH
 cd "$(dirname "${BASH_SOURCE[0]}")/.."
+source .ci/skipping.bash
 room=$(mktemp -d)
 trap 'rm -rf --one-file-system "$room"' EXIT
 chmod 755 "$room"
 umask 022
-skipped=()
 
 fail() { # WHAT
     echo "${0##*/}: $*" >&2
@@ -19,17 +20,6 @@ fail() { # WHAT
 # Runs a command, and shows its output only if it fails.
 quietly() { # COMMAND..
     "$@" > "$room/said" 2>&1 || { tail -n 30 "$room/said"; fail "failed: $*"; }
-}
-
-# Succeeds if a tool is installed. Otherwise notes that the check which needs the tool is skipped.
-has() { # TOOL WHAT
-    command -v "$1" > /dev/null || { skipped+=("$2 (no $1)"); return 1; }
-}
-
-# Prints what was skipped.
-show_skipped() {
-    local what
-    for what in "${skipped[@]}"; do echo "${0##*/}: skipped: $what"; done
 }
 
 # The volume is not canonical, because an image has another filler after the section.
