@@ -85,23 +85,25 @@ check: try
 # Writes pages to a folder, with the folders of this run in place of those of a package.
 page = packaging/page --places "$(DOCDIR)" "$(DATADIR)" "$(BINDIR)/"
 
+# With -T, a folder in the place of a file, or a link to a folder, is not taken for the folder of the file: a link is
+# replaced, and a folder stops make.
 install: folders
 	@if [ "$(PROGRAM)" = "$(BUILT)" ]; then packaging/prove --is-made fv_tool; fi
 	@if [ "$(ARCHIVE)" = "$(BUILT_ARCHIVE)" ]; then packaging/prove --is-made fv_c; fi
 	$(INSTALL) -d "$(DESTDIR)$(BINDIR)" "$(DESTDIR)$(MANDIR)/man1" "$(DESTDIR)$(DOCDIR)"
 	$(INSTALL) -d "$(DESTDIR)$(BASHDIR)" "$(DESTDIR)$(ZSHDIR)" "$(DESTDIR)$(DATADIR)"
-	+room=$$(mktemp -d) && $(call shipped,"$$room") && $(INSTALL) -m 755 "$$room/fvtool" "$(DESTDIR)$(BINDIR)/fvtool" && \
+	+room=$$(mktemp -d) && $(call shipped,"$$room") && $(INSTALL) -T -m 755 "$$room/fvtool" "$(DESTDIR)$(BINDIR)/fvtool" && \
 	    $(CLIB) OUT="$$room" install-tools; status=$$?; rm -rf "$$room"; exit $$status
-	$(INSTALL) -D -m 755 $(LAUNCHER) "$(DESTDIR)$(DATADIR)/$(LAUNCHER)"
-	for it in $(COMMANDS); do ln -srf "$(DESTDIR)$(DATADIR)/$(LAUNCHER)" "$(DESTDIR)$(BINDIR)/$$it" || exit; done
+	$(INSTALL) -D -T -m 755 $(LAUNCHER) "$(DESTDIR)$(DATADIR)/$(LAUNCHER)"
+	for it in $(COMMANDS); do ln -srfT "$(DESTDIR)$(DATADIR)/$(LAUNCHER)" "$(DESTDIR)$(BINDIR)/$$it" || exit; done
 	$(page) "$(DESTDIR)$(DOCDIR)" $(DOCUMENTS)
 	$(page) "$(DESTDIR)$(DATADIR)" packaging/gitconfig
 	python3 -B clib/python/manual.py "$(DESTDIR)$(MANDIR)/man1" "$(DOCDIR)"
-	$(INSTALL) -m 644 packaging/completion.bash "$(DESTDIR)$(BASHDIR)/fvtool"
-	$(INSTALL) -m 644 packaging/completion.zsh "$(DESTDIR)$(ZSHDIR)/_fvtool"
+	$(INSTALL) -T -m 644 packaging/completion.bash "$(DESTDIR)$(BASHDIR)/fvtool"
+	$(INSTALL) -T -m 644 packaging/completion.zsh "$(DESTDIR)$(ZSHDIR)/_fvtool"
 	for it in $(COMMANDS); do { cat packaging/commands.bash; echo "complete -o default -F _fv $$it"; } | \
-	    $(INSTALL) -m 644 /dev/stdin "$(DESTDIR)$(BASHDIR)/$$it" || exit; done
-	printf '#compdef %s\n_gnu_generic\n' "$(COMMANDS)" | $(INSTALL) -m 644 /dev/stdin "$(DESTDIR)$(ZSHDIR)/_fv"
+	    $(INSTALL) -T -m 644 /dev/stdin "$(DESTDIR)$(BASHDIR)/$$it" || exit; done
+	printf '#compdef %s\n_gnu_generic\n' "$(COMMANDS)" | $(INSTALL) -T -m 644 /dev/stdin "$(DESTDIR)$(ZSHDIR)/_fv"
 
 install-lib: folders
 	@if [ "$(ARCHIVE)" = "$(BUILT_ARCHIVE)" ]; then packaging/prove --is-made fv_c; fi

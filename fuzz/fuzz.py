@@ -25,11 +25,16 @@ import uuid
 from collections.abc import Callable, Iterable, Iterator, Sequence
 from dataclasses import dataclass, field
 from pathlib import Path
-from subprocess import PIPE, STDOUT
+from subprocess import PIPE
 from typing import TypeVar
 
 T = TypeVar("T")
 ROOT = Path(__file__).resolve().parent.parent
+sys.dont_write_bytecode = True
+sys.path.insert(0, str(ROOT / "recipes"))
+
+from images import covered  # noqa: E402
+
 FFS2 = uuid.UUID("8c8ce578-8a3d-4f1c-9935-896185c32dd3").bytes_le
 FFS3 = uuid.UUID("5473c07a-3dcb-4dca-bd6f-1e9689e7349a").bytes_le
 TOP_FILE = uuid.UUID("1ba0062e-c779-4582-8566-336ae8f78f09").bytes_le
@@ -764,6 +769,8 @@ def make_case(seed: int, index: int) -> Case:
     kind = pick.random()
     if kind < 0.78:
         return volume_case(name, pick)
+    if kind < 0.784:
+        return Case("image", covered(pick.random() < 0.5), ["volume at 72 length 256"])
     if kind < 0.86:
         image = Maker(name).image()
         if pick.random() < 0.3:
@@ -824,17 +831,20 @@ class Tool:
         return path
 
     def start(self, words: list[str], given: str = os.devnull) -> Answer:
-        """Runs the program. The answer includes its text on standard error."""
+        """Runs the program. Checks that standard error explains the statuses 2 and 3, and is empty otherwise."""
         self.calls += 1
         argv, most = [self.program, *words], self.seconds
         with open(given, "rb") as stdin:
             try:
                 done = subprocess.run(
-                    argv, stdin=stdin, stdout=PIPE, stderr=STDOUT, timeout=most, close_fds=False, env=NONE, check=False
+                    argv, stdin=stdin, stdout=PIPE, stderr=PIPE, timeout=most, close_fds=False, env=NONE, check=False
                 )
             except subprocess.TimeoutExpired:
                 raise Wrong(f"{words}: no end within {most} seconds") from None
-        require(0 <= done.returncode <= 3, f"{words}: status {done.returncode}", done.stdout)
+        require(0 <= done.returncode <= 3, f"{words}: status {done.returncode}", done.stdout, done.stderr)
+        heads = (b"fvtool: ", b"This is fvtool ")  # of a message, and of the help
+        is_explained = done.stderr.startswith(heads) if done.returncode >= 2 else done.stderr == b""
+        require(is_explained, f"{words}: status {done.returncode}", done.stdout, done.stderr)
         return done.returncode, done.stdout
 
     def once(
@@ -1196,6 +1206,18 @@ def check_all(tool: Tool, case: Case, text: bytes) -> None:
     require(found == (worst, wanted), "check --all: other lines", found, (worst, wanted))
 
 
+def check_renewed(tool: Tool, case: Case, text: bytes) -> None:
+    """Checks that `normalise --all` keeps the length of an image, and writes its own result again if `scan` finds the
+    same volumes there. (It may find others: `covered` of recipes/images.py makes such images.)"""
+    status, image = tool.ask("normalise", case.data, options=["--all"])
+    if status == 2:
+        return
+    require(len(image) == len(case.data), f"normalise --all: {len(image)} bytes of {len(case.data)}")
+    if tool.ask("scan", image) == (0, text):
+        again = tool.ask("normalise", image, options=["--all"])
+        require(again == (0, image), "normalise --all: another image of the image")
+
+
 def check_image(tool: Tool, case: Case) -> str:
     """Checks the program over a flash image. Returns the outcome."""
     status, text = tool.ask("scan", case.data)
@@ -1203,6 +1225,7 @@ def check_image(tool: Tool, case: Case) -> str:
     require(case.lines is None or text == joined(case.lines), "scan: other volumes", text, case.lines)
     check_places(tool, case, text)
     check_all(tool, case, text)
+    check_renewed(tool, case, text)
     return "scanned"
 
 

@@ -59,9 +59,9 @@ refuses() { # WHAT COMMAND..
 # Checks that a command without the library, or with a full output, reports this and ends with status 4.
 fails_clearly() { # COMMAND..
     local name=${1##*/}
-    expect 4 "$name: /missing/libfv.so.2: cannot open shared object file: No such file or directory. The library libfv and\
- its package for Python are needed: clib/build makes them in the repository, and \`make install-lib\` or \`pip install\
- ./clib/python\` installs them. LIBFV may name the shared object." env LIBFV=/missing/libfv.so.2 "$@"
+    expect 4 "$name: /missing/libfv.so.2: cannot open shared object file: No such file or directory. The library libfv is\
+ needed. It is in the Debian packages and in the wheel of a release, and clib/build makes it in a clone that has the kit\
+ (docs/INSTALL.md). LIBFV may name the shared object." env LIBFV=/missing/libfv.so.2 "$@"
     expect 4 "$name: [Errno 28] No space left on device" bash -c '"$@" > /dev/full' '' "$@"
 }
 

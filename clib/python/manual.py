@@ -163,6 +163,7 @@ def main() -> None:
         made: Path = given.folder / f"{name}.1"
         made.unlink(missing_ok=True)  # a link is replaced, and not written through
         made.write_text("\n".join(lines), encoding="utf-8")
+        made.chmod(0o644)  # whatever the umask is
 
 
 if __name__ == "__main__":

@@ -92,7 +92,8 @@ def test_fixed() -> None:
     (volume,) = images.read(made.IMAGES["fixed-inside.fv"]()).volumes
     inner = volume.files[0].sections[0].volume
     assert volume.fault is None and volume.is_marked and not volume.fixed and inner and inner.is_marked
-    assert [len(it.fixed) for it in (volume, inner)] == [0, 2] and fv.volume_tree(volume.plain) and inner.plain in volume.plain
+    assert [len(it.fixed) for it in (volume, inner)] == [0, 2]
+    assert fv.volume_tree(volume.plain) and inner.plain in volume.plain
 
 
 def test_places() -> None:
@@ -174,6 +175,12 @@ def test_remains() -> None:
     assert [it[0] for it in unread_in(made.volume([made.A, begun, made.B]))] == ["unfinished file"]
     before = made.file(made.guid(2), made.noise("b", 50), state=0x0F)
     assert [it[0] for it in unread_in(made.volume([made.A, before, made.B]))] == ["superseded file"]
+    marked = made.file(made.guid(2), made.noise("b", 50), attributes=made.FIXED, state=0x0F)
+    inner = made.section(made.VOLUME, made.volume([marked, made.B], 0x1000))
+    nested = made.file(made.guid(6), inner, made.VOLUME_IMAGE)
+    for data in (made.volume([marked, made.B]), made.volume([nested])):
+        volumes = [volume for volume, _ in images.files_in(images.read(data))]
+        assert [it.what for it in volumes[-1].unread] == ["superseded file"] and not volumes[-1].fault
     filled = made.C[:-1] + b"\1"
     assert unread_in(made.volume([filled, made.B])) == [("filler", "bytes between two files")]
     named = made.volume([made.B], name=made.guid(9))
@@ -188,16 +195,13 @@ def test_remains() -> None:
 def test_doubts() -> None:
     """Opens a section whose checksum is wrong or whose data have bytes after their end, and says so."""
     text = made.ui("Text")
-    whole = made.guided(made.LZMA, lzma.compress(text, format=lzma.FORMAT_ALONE))
+    whole = lzma.compress(text, format=lzma.FORMAT_ALONE)
     sum_of = struct.pack("<I", zlib.crc32(text))
-    cases = [
-        (whole, []),
-        (made.guided(made.LZMA, lzma.compress(text, format=lzma.FORMAT_ALONE) + bytes(9)), []),
-        (made.guided(made.LZMA, lzma.compress(text, format=lzma.FORMAT_ALONE) + b"more"), ["4 bytes follow the packed data"]),
-    ]
-    for stored, doubts in ((sum_of, []), (bytes(4), ["the CRC32 is wrong"])):
+    cases: list[tuple[bytes, list[str]]] = [(made.guided(made.LZMA, whole + filler), []) for filler in (b"", bytes(9))]
+    cases.append((made.guided(made.LZMA, whole + b"more"), ["4 bytes follow the packed data"]))
+    for stored, doubt in ((sum_of, ""), (bytes(4), "the CRC32 is wrong")):
         head = made.CRC32.bytes_le + struct.pack("<HH", 28, 1) + stored
-        cases.append((made.section(made.GUIDED, head + text), doubts))
+        cases.append((made.section(made.GUIDED, head + text), [doubt] if doubt else []))
     for length in (len(text), 5):
         wrong = ["the contents have another length than the header says"] * (length == 5)
         cases.append((made.section(0x01, struct.pack("<IB", length, 0) + text), wrong))
@@ -211,7 +215,7 @@ def test_inputs() -> None:
     data = made.firmware()
     image = images.read(bytearray(data))
     assert image == images.read(memoryview(data)) == images.read(data) and len(repr(image)) < 20_000
-    assert images.read(made.volume([made.driver(made.guid(1), "N" * 300, b"")])).volumes[0].files[0].name == "N" * 200 + ".."
+    assert names_of(made.volume([made.driver(made.guid(1), "N" * 300, b"")])) == ["N" * 200 + ".."]
 
 
 def test_limits() -> None:
@@ -262,7 +266,8 @@ def test_tiano() -> None:
         guided = made.guided(uuid.UUID("a31280ad-481e-41b6-95e8-127f4c984779"), packed)
         found = names_of(made.volume([made.file(made.guid(1), guided, made.FREEFORM)]))
         assert found == ["Old"] * (width == 5)
-        assert closed_in(packed_file(head + packed), Limits(slow=4000)) == ["more than 4000 symbols of slow compression"]
+        slow = closed_in(packed_file(head + packed), Limits(slow=4000))
+        assert slow == ["more than 4000 symbols of slow compression"]
         for wrong in (packed[:7], packed[:-20], packed[:8] + made.noise("tiano", 300)):
             assert closed_in(packed_file(head + wrong))[0].startswith("compression: ")
     assert closed_in(packed_file(b"\0\0\0\0")) == ["no compression header"]

@@ -1,10 +1,10 @@
 # SPDX-License-Identifier: BSD-2-Clause-Patent
 """Runs the commands of README.md over made images, with each engine that is installed, and kills a worker, a job or a
 machine with SIGKILL in the middle. Each image must then have exactly one line, with the result that it was made for:
-no line is lost, and no line occurs twice. A run that is killed cannot have ended before: one of its images is a pipe
-without a writer, and becomes a file only afterwards. An engine that is not installed is skipped. `test` runs this
-script, with the environment that it needs. By default there are 1,000 small images. With --images 10000 they are
-larger. The Slurm test then kills a machine, and waits until Slurm gives its task to the other machine, which takes
+no line is lost, and no line occurs twice. A run that is killed cannot have ended before: one of its images is a pipe of
+this script with nothing in it, and becomes a file only afterwards. An engine that is not installed is skipped. `test`
+runs this script, with the environment that it needs. By default there are 1,000 small images. With --images 10000 they
+are larger. The Slurm test then kills a machine, and waits until Slurm gives its task to the other machine, which takes
 three minutes."""
 
 from __future__ import annotations
@@ -125,10 +125,10 @@ class Run:
         self.room.mkdir()
         self.answers = self.room / "answers.tsv"
         self.held, at = self.room / "held.fd", self.count * 3 // 4
+        self.held.write_bytes(HELD)
+        self.pipe = os.pipe()
         if is_killed:
-            os.mkfifo(self.held)
-        else:
-            self.held.write_bytes(HELD)
+            self.held = Path(f"/proc/{os.getpid()}/fd/{self.pipe[0]}")
         names = [*fleet.names[:at], self.held, *fleet.names[at + 1 :]]
         self.lines = [*fleet.lines[:at], f"0\t0 canonical\t{self.held}", *fleet.lines[at + 1 :]]
         (self.room / "LIST").write_text("".join(f"{name}\n" for name in names))
@@ -206,11 +206,12 @@ class Run:
         for the pipe gets the same bytes."""
         if self.written() >= self.count:
             raise Wrong("all lines were there before anything was killed")
-        pipe, file = os.open(self.held, os.O_RDWR), self.room / "file"
-        file.write_bytes(HELD)
-        file.replace(self.held)
-        os.write(pipe, HELD)
-        os.close(pipe)
+        out, into = self.pipe
+        pipe, file = os.dup(out), os.open(self.room / "held.fd", os.O_RDONLY)
+        os.dup2(file, out)
+        os.write(into, HELD)
+        for it in (file, into, pipe):
+            os.close(it)
 
 
 # Engines

@@ -14,6 +14,9 @@ is left out of a line of text. As text, a line of `tree` is indented by its dept
 A rejected volume has a single line, with its fault. If the image contains no volume, the only line is the fault of its
 first bytes.
 
+The process takes at most 4 GiB of memory. `tree` and `digests` need up to 50 bytes for each byte of a volume with only
+empty sections.
+
 Exit status 0: success. 1: `check` has found a volume that is not canonical. 2: a volume is rejected, or the image
 cannot be read or has more than 1 GiB. 3: the arguments are wrong. 4: the library libfv cannot be used, the output
 cannot be written, or memory ran out."""
@@ -136,6 +139,7 @@ def parser() -> cli.Parser:
 def main(words: list[str]) -> int:
     """Writes the lines of a command, and returns the exit status."""
     given = parser().parse_args(words)
+    cli.limit_memory()
     status, image = cli.DONE, memoryview(cli.read_for(NAME, given.image))
     for line in lines(image, given.command):
         print(json.dumps(line) if given.json else text_of(line))

@@ -3,48 +3,54 @@
 
     0	0 canonical	/images/a.fd
     1	4096 canonical, 266240 not canonical	/images/b.fd
-    2	0 fault 15 at 91	/images/c.fd
+    2	0 fault 11 at 72	/images/c.fd
 
 Each verdict follows the offset of its volume. The offset of a fault counts from the first byte of the volume. The
-greatest status of the volumes is the status of the image: 0 means canonical, 1 not canonical, 2 rejected. A file
-without a volume has the fault of its first bytes, and a file that cannot be read has `0 fault 25 at 0`. If an image has
-more than 1,000 volumes, the last verdict says so, and the status is 2. A control character in a name is shown as `?`.
+greatest status of the volumes is the status of the image: 0 means canonical, 1 not canonical, 2 rejected. A volume with
+fixed files is read without their marks, and its verdict says so: `canonical without marks`. A file without a volume has
+the fault of its first bytes, and a file that cannot be read, or is neither a file nor a block device, has `0 fault 25
+at 0`. If an image has more than 1,000 volumes, the last verdict says so, and the status is 2.
 
     fv-check -- IMAGE..
-    fv-check --from LIST --to ANSWERS
+    fv-check --no-status --from LIST --to ANSWERS
 
 LIST has the name of an image in each line, and `-` is standard input. The lines are added to ANSWERS. Images that have
 an answer there already are skipped, so a run that was interrupted can be repeated with the same command. ANSWERS must
-be a file with nothing but answers, which no other run writes to.
+be a file with nothing but answers, which no other run writes to. In a line, `\\xNN` is a byte of the name that cannot
+be seen, of a backslash or of a question mark, so different names have different lines.
 
-Exit status 0: every image has a line, whatever its status. 3: the arguments are wrong. 4: the library libfv, LIST or
-ANSWERS cannot be used, or an answer cannot be written."""
+Exit status 0: all images are canonical. 1: an image is not canonical. 2: an image is rejected, or cannot be read. An
+answer that was there already counts too, and with --no-status these three are 0. 3: the arguments are wrong. 4: the
+library libfv, LIST or ANSWERS cannot be used, or an answer cannot be written."""
 
 from __future__ import annotations
 
-import argparse
+import contextlib
 import fcntl
 import os
 import re
+import resource
 import stat
 import sys
+from collections import deque
 from collections.abc import Iterable, Iterator
-from concurrent.futures import ThreadPoolExecutor
+from concurrent.futures import Future, ThreadPoolExecutor
 from itertools import islice
 from typing import BinaryIO
 
 from . import cli
-from ._calls import image_check, volume_is_canonical
-from ._errors import FaultError
-from ._native import LENGTH_MAX
+from ._calls import image_check, volume_is_canonical, volume_unfix
+from ._errors import Fault, FaultError
+from ._native import LENGTH_MAX, FaultCode
 from ._types import VolumeCheck
 from .limits import Full, Limits
 
 NAME = "fv-check"
 MOST_VOLUMES = 1000  # volumes of an image that have verdicts in its line
 CHUNK = 200  # images that the threads get at a time; their lines are then written
+THREAD = 128 << 20  # bytes of memory for each thread: its stack, what the C library reserves for it, and an image
 CANONICAL, NOT_CANONICAL, REJECTED = range(3)  # statuses of a line
-LINE, FIRST_PART = re.compile(rb"[0-2]\t[^\t]+\t.+"), re.compile(rb"([0-2](\t.*)?)?")
+LINE, FIRST_PART = re.compile(rb"[0-2]\t[^\t]+\t.*"), re.compile(rb"([0-2](\t.*)?)?")
 
 
 def line(status: int, verdicts: str, name: bytes) -> bytes:
@@ -53,8 +59,16 @@ def line(status: int, verdicts: str, name: bytes) -> bytes:
 
 
 def shown(name: bytes) -> bytes:
-    """Returns a name without control characters, which could look like the end of a field."""
-    return re.sub(rb"[\x00-\x1f\x7f]", b"?", name)
+    """Returns a name in the form of a line, from which its bytes follow. Before 2.1 a character that controls the
+    terminal was shown as `?`, so a question mark is not shown as itself: its line of then would count as an answer."""
+    return b"".join(map(_shown, name.decode("utf-8", "surrogateescape")))
+
+
+def _shown(character: str) -> bytes:
+    """Returns a character of a name, or its bytes as numbers."""
+    data = character.encode("utf-8", "surrogateescape")
+    is_plain = character.isprintable() and character not in "\\?"
+    return data if is_plain else b"".join(b"\\x%02x" % it for it in data)
 
 
 def answer(name: bytes) -> bytes:
@@ -68,41 +82,105 @@ def answer(name: bytes) -> bytes:
 def _checked(name: bytes) -> bytes:
     """Returns the line of an image, but raises MemoryError if memory runs out."""
     try:
-        data = cli.read_file(name, LENGTH_MAX)
+        data = cli.read_file(_opened(name), LENGTH_MAX)
     except (OSError, ValueError):  # no file has a name with a NUL
         return line(REJECTED, "0 fault 25 at 0", name)
     except Full:
         return line(REJECTED, f"0 fault 8 at {LENGTH_MAX}", name)
-    checks = image_check(data)
-    if not checks:
-        try:
-            is_canonical = volume_is_canonical(data)
-        except FaultError as error:
-            return line(REJECTED, f"0 {error.fault}", name)
-        checks = [VolumeCheck(0, len(data), None, is_canonical)]
-    found = [_verdict(it) for it in checks[:MOST_VOLUMES]]
+    checks = image_check(data) or [_whole(data)]
+    found = [_verdict(data, it) for it in checks[:MOST_VOLUMES]]
     for it in checks[MOST_VOLUMES : MOST_VOLUMES + 1]:
         found.append((REJECTED, f"{it.offset} not checked: more than {MOST_VOLUMES} volumes"))
     return line(max(status for status, _ in found), ", ".join(text for _, text in found), name)
 
 
-def _verdict(check: VolumeCheck) -> tuple[int, str]:
+def _opened(name: bytes) -> int:
+    """Opens an image. Raises OSError if it is a named pipe or a terminal, for example, which could block the run for
+    ever. A pipe that a shell has made for its command, as in `<(COMMAND)`, can be read."""
+    file = os.open(name, os.O_RDONLY | os.O_NONBLOCK | os.O_NOCTTY)
+    kind = os.fstat(file).st_mode
+    is_pipe = stat.S_ISFIFO(kind) and os.readlink(f"/proc/self/fd/{file}").startswith("pipe:")
+    if not (stat.S_ISREG(kind) or stat.S_ISBLK(kind) or is_pipe):
+        os.close(file)
+        raise OSError("neither a file nor a block device")
+    os.set_blocking(file, True)
+    return file
+
+
+def _whole(data: bytes) -> VolumeCheck:
+    """Returns the check of an image in which no volume was found."""
+    try:
+        return VolumeCheck(0, len(data), None, volume_is_canonical(data))
+    except FaultError as error:
+        return VolumeCheck(0, len(data), error.fault, False)
+
+
+def _verdict(data: bytes, check: VolumeCheck) -> tuple[int, str]:
     """Returns the status and the verdict of a volume."""
-    if check.fault:
-        return REJECTED, f"{check.offset} fault {check.fault.number} at {check.fault.offset - check.offset}"
-    if check.canonical:
-        return CANONICAL, f"{check.offset} canonical"
-    return NOT_CANONICAL, f"{check.offset} not canonical"
+    at, fault, is_canonical, marks = check.offset, check.fault, check.canonical, ""
+    place = fault.offset - at if fault else 0
+    if fault and fault.code == FaultCode.FIXED and not fault.depth:
+        fault, is_canonical, marks = *_without_marks(memoryview(data)[at : at + check.length]), " without marks"
+        place = fault.offset if fault else 0
+    if fault:
+        return REJECTED, f"{at} fault {fault.number} at {place}"
+    return (CANONICAL, f"{at} canonical{marks}") if is_canonical else (NOT_CANONICAL, f"{at} not canonical{marks}")
 
 
-def answers(names: Iterable[bytes], pool: ThreadPoolExecutor) -> Iterator[bytes]:
+def _without_marks(volume: memoryview) -> tuple[Fault | None, bool]:
+    """Checks a volume without the marks of its fixed files: returns its fault, and whether it is canonical. In a nested
+    volume, files keep their marks, so the volume is rejected."""
+    try:
+        return None, volume_is_canonical(volume_unfix(volume))
+    except FaultError as error:
+        return error.fault, False
+
+
+def threads(jobs: int) -> int:
+    """Returns how many threads may check images: at most `jobs`, and only as many as the memory of the process can
+    hold."""
+    most, _ = resource.getrlimit(resource.RLIMIT_AS)
+    return max(min(jobs, jobs if most == resource.RLIM_INFINITY else most // THREAD), 1)
+
+
+def answers(names: Iterable[bytes], jobs: int) -> Iterator[list[bytes]]:
     """Yields the lines of images in their order, the lines of many images at a time."""
     rest = iter(names)
     while chunk := list(islice(rest, CHUNK)):
-        runs = [pool.submit(_checked, name) for name in chunk]
         # If memory ran out for an image, it is checked again when all others of the chunk have ended.
-        failed = [isinstance(run.exception(), MemoryError) for run in runs]
-        yield b"".join(answer(name) if is_failed else run.result() for name, run, is_failed in zip(chunk, runs, failed))
+        yield [it or answer(name) for it, name in zip(_chunk(chunk, jobs), chunk)]
+
+
+def _chunk(names: list[bytes], jobs: int) -> list[bytes]:
+    """Returns the lines of images, which this thread and others take one by one. If memory ran out for an image, its
+    line is empty."""
+    found, left = [b""] * len(names), deque(range(len(names)))
+
+    def work() -> None:
+        """Checks images until none is left."""
+        with contextlib.suppress(IndexError):
+            while True:
+                _fill(found, left.popleft(), names)
+
+    runs: list[Future[None]] = []
+    with ThreadPoolExecutor(jobs) as pool:
+        try:
+            with contextlib.suppress(RuntimeError, MemoryError):  # no further thread can be started
+                for _ in range(jobs - 1):
+                    runs.append(pool.submit(work))
+            work()
+        finally:
+            left.clear()  # the threads end
+    for run in runs:
+        with contextlib.suppress(MemoryError):
+            run.result()
+    return found
+
+
+def _fill(found: list[bytes], number: int, names: list[bytes]) -> None:
+    """Sets the line of an image, unless memory runs out."""
+    with contextlib.suppress(MemoryError):
+        found[number] = _checked(names[number])
 
 
 def open_answers(path: str) -> BinaryIO:
@@ -119,15 +197,23 @@ def open_answers(path: str) -> BinaryIO:
     return file
 
 
-def answered(file: BinaryIO) -> set[bytes]:
-    """Returns the names that have an answer in a file. Removes an incomplete last line, as a killed command leaves it.
+def answered(file: BinaryIO) -> dict[bytes, int]:
+    """Returns the names that have an answer in a file, as they are shown, with the statuses of the answers. Removes an
+    incomplete last line, as a killed command leaves it, and zeros at the end, as a crash of the system leaves them.
     Raises OSError if something else than answers is in the file, which then stays as it is."""
     data = file.read()
     *lines, last = data.split(b"\n")
-    if not all(map(LINE.fullmatch, lines)) or not FIRST_PART.fullmatch(last):
+    begun = last.rstrip(b"\0") if lines else last  # a file that has only zeros may be something else
+    if not all(map(LINE.fullmatch, lines)) or not FIRST_PART.fullmatch(begun):
         raise OSError("the file for the answers has other lines")
+    if begun != last:
+        cli.complain(NAME, f"the answers end with zeros: {len(last)} bytes after their last line are removed")
     file.truncate(len(data) - len(last))
-    return {it.split(b"\t", 2)[2] for it in lines}
+    found: dict[bytes, int] = {}
+    for it in lines:
+        status, _, name = it.split(b"\t", 2)
+        found[name] = max(int(status), found.get(name, 0))
+    return found
 
 
 def names_in(path: str) -> list[bytes]:
@@ -141,36 +227,48 @@ def names_in(path: str) -> list[bytes]:
 
 def parser() -> cli.Parser:
     """Returns the arguments of the command."""
-    made = cli.Parser(NAME, __doc__, f"{NAME} [--jobs N] [--from LIST] [--to ANSWERS] [--] [IMAGE ..]")
+    made = cli.Parser(NAME, __doc__, f"{NAME} [--no-status] [--jobs N] [--from LIST] [--to ANSWERS] [--] [IMAGE ..]")
     made.add_argument("images", metavar="IMAGE", nargs="*", help="an image")
     made.add_argument("--from", metavar="LIST", dest="list", help="a file with the name of an image in each line")
     made.add_argument("--to", metavar="ANSWERS", dest="answers", help="the file to which the lines are added")
+    made.add_argument("--no-status", action="store_true", help="end with status 0 whatever the lines are")
     made.add_argument(
-        "--jobs", metavar="N", type=int, default=os.cpu_count(), help="the threads; by default one for each processor"
+        "--jobs",
+        metavar="N",
+        type=int,
+        default=os.cpu_count(),
+        help="the threads; by default one for each processor, and at most one for each 128 MiB of memory",
     )
     return made
 
 
-def _run(names: list[bytes], given: argparse.Namespace, pool: ThreadPoolExecutor) -> None:
-    """Writes the lines of images."""
-    if not given.answers:
-        for chunk in answers(names, pool):
-            sys.stdout.buffer.write(chunk)
+def _run(names: list[bytes], path: str | None, jobs: int) -> int:
+    """Writes the lines of images to standard output or to a file, and returns the greatest of their statuses."""
+    status = CANONICAL
+    if not path:
+        for lines in answers(names, jobs):
+            sys.stdout.buffer.write(b"".join(lines))
             sys.stdout.buffer.flush()  # so the lines of a chunk are one write, as far as a pipe takes them
-        return
-    with open_answers(given.answers) as file:
+            status = max(status, *(int(it[:1]) for it in lines))
+        return status
+    with open_answers(path) as file:
         before = answered(file)
-        for chunk in answers((it for it in names if shown(it) not in before), pool):
-            rest = memoryview(chunk)
+        status = max((before.get(shown(it), CANONICAL) for it in names), default=CANONICAL)
+        for lines in answers((it for it in names if shown(it) not in before), jobs):
+            rest = memoryview(b"".join(lines))
             while rest:  # a full disk takes only a first part
                 rest = rest[file.write(rest) :]
+            status = max(status, *(int(it[:1]) for it in lines))
+    return status
 
 
 @cli.command(NAME)
 def main(words: list[str]) -> int:
     """Runs the command."""
     given = parser().parse_args(words)
-    names = [os.fsencode(it) for it in given.images] + (names_in(given.list) if given.list else [])
-    with ThreadPoolExecutor(max(given.jobs, 1)) as pool:
-        _run(names, given, pool)
-    return cli.DONE
+    if not given.images and given.list is None:
+        parser().error("IMAGE or --from LIST is needed")
+    cli.limit_memory()
+    names = [os.fsencode(it) for it in given.images] + (names_in(given.list) if given.list is not None else [])
+    status = _run(names, given.answers, threads(given.jobs))
+    return cli.DONE if given.no_status else status

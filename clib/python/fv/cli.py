@@ -19,6 +19,7 @@ from __future__ import annotations
 
 import argparse
 import contextlib
+import errno
 import functools
 import io
 import os
@@ -35,8 +36,8 @@ from .shown import printable
 
 DONE, OTHER, REJECTED, WRONG_WORDS, FAILED = range(5)
 HELP = (
-    "The library libfv and its package for Python are needed: clib/build makes them in the repository, and `make"
-    " install-lib` or `pip install ./clib/python` installs them. LIBFV may name the shared object."
+    "The library libfv is needed. It is in the Debian packages and in the wheel of a release, and clib/build makes it"
+    " in a clone that has the kit (docs/INSTALL.md). LIBFV may name the shared object."
 )
 MOST_MEMORY = 4 << 30  # bytes that the process may take
 STEP = 1 << 20  # bytes that are read from a pipe at a time
@@ -72,9 +73,13 @@ class Parser(argparse.ArgumentParser):
 
 
 def with_name_last(words: list[str]) -> list[str]:
-    """Returns the arguments of a command that git calls with a file name at the end, which may begin with a hyphen."""
-    is_name = words[-1:] and words[-1] not in ("-h", "--help", "--version") and "--" not in words
-    return [*words[:-1], "--", words[-1]] if is_name else words
+    """Returns the arguments of a command that git calls with a file name at the end, which may begin with a hyphen.
+    `--help` at the end is a name if there is a file with this name, and so are `-h`, `--version` and `--`."""
+    if not words or "--" in words[:-1]:
+        return words
+    if words[-1] in ("-h", "--help", "--version", "--") and not os.path.lexists(words[-1]):
+        return words
+    return [*words[:-1], "--", words[-1]]
 
 
 def command(name: str) -> Callable[[Callable[[list[str]], int]], Main]:
@@ -108,7 +113,10 @@ def ended(name: str, run: Callable[[], int]) -> int:
     except Full as what:
         status = REJECTED
         complain(name, f"more than {what}")
-    except (OSError, MemoryError) as error:
+    except OSError as error:
+        status = FAILED
+        complain(name, reason(error))
+    except MemoryError as error:
         status = FAILED
         complain(name, str(error) or "memory ran out")
     except ImportError as error:
@@ -153,6 +161,23 @@ def complain(name: str, what: str) -> None:
     if sys.stderr is not None:
         with contextlib.suppress(OSError):
             print(f"{name}: {printable(what)}", file=sys.stderr)
+
+
+def reason(error: OSError, name: str | None = None) -> str:
+    """Returns in plain words why a file cannot be used, after its name, which the error may have too."""
+    name = error.filename if name is None else name
+    if not isinstance(name, (str, bytes)) or not error.strerror or error.filename2 is not None:
+        return str(error)
+    is_missing = error.errno == errno.ENOENT
+    words = "no such file" if is_missing else f"{error.strerror[:1].lower()}{error.strerror[1:]}"
+    return f"{printable(os.fsdecode(name)) or repr(name)}: {words}"
+
+
+def refuse_terminal(name: str, what: str) -> None:
+    """Ends a command with status 3 if standard output is a terminal. `what` is its output, which is not for reading."""
+    if sys.stdout.isatty():
+        complain(name, f"{what} is not written to a terminal: add `> FILE` or `| COMMAND`")
+        sys.exit(WRONG_WORDS)
 
 
 def limit_memory() -> None:
@@ -211,7 +236,7 @@ def read(name: str, say: Callable[[str], None], most: int) -> bytes:
     try:
         return read_file(name, most)
     except OSError as error:
-        say(str(error))
+        say(reason(error, name))
         fault = "fault 25 at 0"
     except MemoryError:
         fault = "fault 24 at 0"

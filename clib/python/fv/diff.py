@@ -3,10 +3,13 @@
 
     git config diff.fv.command fv-diff
 
-git passes PATH OLD-FILE OLD-HEX OLD-MODE NEW-FILE NEW-HEX NEW-MODE, and further arguments for a renamed file.
+git passes PATH OLD-FILE OLD-HEX OLD-MODE NEW-FILE NEW-HEX NEW-MODE, and further arguments for a renamed file, but only
+PATH if the file is not merged. With two arguments, which git never passes, the command does what fv-same does: it
+compares two images, with the exit statuses of fv-same.
 
-Exit status 0: whatever differs, since git stops at any other status. 3: the arguments are wrong. 4: the library libfv
-cannot be used, or the output cannot be written."""
+Exit status 0: whatever differs, since git stops at any other status. 1: two images are different. 2: of two images, one
+is rejected or cannot be read. 3: the arguments are wrong. 4: the library libfv cannot be used, or the output cannot be
+written."""
 
 from __future__ import annotations
 
@@ -15,7 +18,7 @@ from collections.abc import Iterator
 
 from . import cli
 from .same import NAME as SAME
-from .same import compare_files, report_lines
+from .same import STATUS, compare_files, report_lines
 from .shown import printable
 
 NAME = "fv-diff"
@@ -36,9 +39,17 @@ def lines(path: str, old: str, new: str) -> Iterator[str]:
         yield from (f"  {line}" for line in report_lines(report))
 
 
+def compare(first: str, second: str) -> int:
+    """Compares two files that a user has named, as fv-same does, and returns the status of fv-same."""
+    report = compare_files((first, second), False, lambda what: cli.complain(NAME, what))
+    print(*report_lines(report), sep="\n")
+    return STATUS[report.verdict]
+
+
 def parser() -> cli.Parser:
     """Returns the arguments of the command."""
-    made = cli.Parser(NAME, __doc__, f"{NAME} PATH OLD-FILE OLD-HEX OLD-MODE NEW-FILE NEW-HEX NEW-MODE ..")
+    usage = f"{NAME} PATH OLD-FILE OLD-HEX OLD-MODE NEW-FILE NEW-HEX NEW-MODE ..\n       {NAME} PATH\n       {NAME} A B"
+    made = cli.Parser(NAME, __doc__, usage)
     made.add_argument("path", metavar="PATH", help="the name of the file in the repository")
     made.add_argument("rest", metavar="FILE", nargs="*", help="the versions, their hashes and their modes")
     return made
@@ -47,10 +58,16 @@ def parser() -> cli.Parser:
 @cli.command(NAME)
 def main(words: list[str]) -> int:
     """Runs the command."""
-    given = parser().parse_args(words if len(words) < 2 else ["--", *words])  # a path may begin with a hyphen
+    # A path may begin with a hyphen.
+    given = parser().parse_args(cli.with_name_last(words) if len(words) < 2 else ["--", *words])
     cli.limit_memory()
-    if len(given.rest) < 6:
-        print(f"fvtool: {printable(given.path)} is not merged")
-    else:
-        print(*lines(given.path, given.rest[0], given.rest[3]), sep="\n")
+    match given.rest:
+        case []:
+            print(f"fvtool: {printable(given.path)} is not merged")
+        case [second]:
+            return compare(given.path, second)
+        case [old, _, _, new, _, _, *_]:
+            print(*lines(given.path, old, new), sep="\n")
+        case _:
+            parser().error("PATH and the six arguments of git are needed, or A and B")
     return cli.DONE

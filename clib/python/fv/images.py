@@ -439,7 +439,7 @@ class Reader:
         """Returns the volume at these bytes, with all parts inside it."""
         body = memoryview(data)[offset : offset + length]
         try:
-            rows = _tree_of(body)
+            rows, is_marked = _tree_of(body)
         except FaultError as error:
             self._budget.count(1)
             # The codes before this one are the faults of headers.
@@ -447,7 +447,7 @@ class Reader:
             fault = replace(error.fault, offset=offset + error.fault.offset)
             rejected = Volume(data, offset, length, name, fault=fault)
             inside = "it is in a volume that is rejected"
-            rejected.unread = list(self._headers(data, offset + SHORTEST_HEADER, offset + length, inside))
+            rejected.unread = list(self._headers(data, offset + 1, offset + length, inside))
             return rejected
         self._budget.count(len(rows))
         parts: list[Part] = []
@@ -457,7 +457,8 @@ class Reader:
                 _hold(parts[row.parent], parts[-1])
         volume = parts[0]
         assert isinstance(volume, Volume)
-        _find_marks(volume)
+        if is_marked:
+            _note_marks(volume)
         self._add_unread(volume)
         return volume
 
@@ -469,8 +470,7 @@ class Reader:
             if not inner.fault:
                 self._add_unread(inner)
         places = [place for file in volume.files for place in _places_read_apart(file.sections)]
-        start, end = volume.offset + SHORTEST_HEADER, volume.offset + volume.length
-        headers = self._headers_between(volume.data, start, places, end)
+        headers = self._headers_between(volume.data, volume.offset + 1, places, volume.offset + volume.length)
         volume.unread = sorted([*remains, *headers], key=lambda it: it.offset)
 
 
@@ -529,14 +529,14 @@ def _number(data: bytes, at: int, size: int) -> int:
     return int.from_bytes(data[at : at + size], "little")
 
 
-def _tree_of(volume: memoryview) -> Sequence[Node]:
-    """Returns the tree of a volume without the marks of fixed files."""
+def _tree_of(volume: memoryview) -> tuple[Sequence[Node], bool]:
+    """Returns the tree of a volume, and whether the volume was read without the marks of fixed files."""
     try:
-        return volume_tree(volume)
+        return volume_tree(volume), False
     except FaultError as error:
         if error.fault.code != FaultCode.FIXED:
             raise
-    return volume_tree(_unmarked(volume))
+    return volume_tree(_unmarked(volume)), True
 
 
 def _unmarked(volume: bytes | memoryview) -> bytes:
@@ -563,11 +563,12 @@ def _nested_places(volume: bytes) -> Iterator[tuple[int, int]]:
                 yield from ((it.body, it.end) for it in found if it.kind == names.VOLUME)
 
 
-def _find_marks(volume: Volume) -> bool:
-    """Notes for a volume, and for each volume inside it, whether a file in it is marked fixed."""
-    inner = [_find_marks(it) for file in volume.files for it in volumes_in(file.sections)]
-    volume.is_marked = bool(volume.fixed) or any(inner)
-    return volume.is_marked
+def _note_marks(volume: Volume) -> None:
+    """Notes for a volume, and for each volume inside it, that it was read without the marks of fixed files. (A mark may
+    also be in a superseded file, which is not among the files of a volume.)"""
+    volume.is_marked = True
+    for inner in (it for file in volume.files for it in volumes_in(file.sections)):
+        _note_marks(inner)
 
 
 def _part(row: Node, data: bytes, start: int) -> Part:
