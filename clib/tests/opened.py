@@ -247,7 +247,7 @@ def test_waste() -> None:
     full = made.compressed(made.section(made.RAW, b"") * 60)
     for packed, limits, count, reason in (
         (cut, Limits(wasted=10 << 20), 3, "LZMA: the data are cut short"),
-        (full, Limits(parts=60), 30, "more than 60 parts"),
+        (full, Limits(parts=60), 37, "more than 60 parts"),
     ):
         data = made.volume([made.file(made.guid(1), made.stream(*[packed] * 40), made.FREEFORM)])
         no_more = f"more than {limits.wasted} bytes that are not kept"

@@ -5,6 +5,7 @@ above it. All files are new, and no link is followed: each folder is opened by i
 from __future__ import annotations
 
 import contextlib
+import itertools
 import os
 import secrets
 from collections.abc import Iterator
@@ -23,16 +24,22 @@ NEW = os.O_WRONLY | os.O_CREAT | os.O_EXCL | os.O_NOFOLLOW | os.O_CLOEXEC
 
 
 class Tree:
-    """A new folder to which files are written. Raises Full before more than `most` bytes are written."""
+    """A new folder to which files are written. Raises Full before more than `most` bytes are written. The folders on
+    the way to the last file stay open, because the next file is mostly in the same folder."""
 
     def __init__(self, top: int, most: int) -> None:
         self._top = top
         self._most = self._left = most
+        self._opened: list[tuple[str, int]] = []  # the names and the descriptors of these folders
 
     def make(self, path: str) -> None:
         """Makes a folder, and the folders above it that are not there."""
-        with self._inside(path):
-            pass
+        self._enter(path)
+
+    def leave(self, depth: int = 0) -> None:
+        """Closes the folders that are open, except the first ones down to a depth."""
+        while len(self._opened) > depth:
+            os.close(self._opened.pop()[1])
 
     def write(self, path: str, data: memoryview) -> None:
         """Writes a new file, and makes the folders above it that are not there."""
@@ -43,7 +50,7 @@ class Tree:
     def file(self, path: str) -> Iterator[IO[bytes]]:
         """Gives the block a new file, for `put`."""
         folder, _, name = path.rpartition("/")
-        with self._inside(folder) as holder, os.fdopen(os.open(name, NEW, 0o666, dir_fd=holder), "wb") as file:
+        with os.fdopen(os.open(name, NEW, 0o666, dir_fd=self._enter(folder)), "wb") as file:
             yield file
 
     def put(self, file: IO[bytes], data: bytes | memoryview) -> None:
@@ -53,16 +60,17 @@ class Tree:
             raise Full(f"{self._most} bytes")
         file.write(data)
 
-    @contextlib.contextmanager
-    def _inside(self, path: str) -> Iterator[int]:
-        """Gives the block a folder. Makes the folders on the way that are not there."""
-        with contextlib.ExitStack() as ending:
-            at = self._top
-            for name in filter(None, path.split("/")):
-                with contextlib.suppress(FileExistsError):
-                    os.mkdir(name, dir_fd=at)
-                at = _kept(os.open(name, PLACE, dir_fd=at), ending)
-            yield at
+    def _enter(self, path: str) -> int:
+        """Returns a descriptor for a folder. Makes the folders on the way that are not there."""
+        names = [it for it in path.split("/") if it]
+        same = itertools.takewhile(lambda both: both[0][0] == both[1], zip(self._opened, names))
+        self.leave(sum(1 for _ in same))
+        for name in names[len(self._opened) :]:
+            at = self._opened[-1][1] if self._opened else self._top
+            with contextlib.suppress(FileExistsError):
+                os.mkdir(name, dir_fd=at)
+            self._opened.append((name, os.open(name, PLACE, dir_fd=at)))
+        return self._opened[-1][1] if self._opened else self._top
 
 
 @contextlib.contextmanager
@@ -81,7 +89,9 @@ def filled_at_end(folder: Path, most: int, last: str) -> Iterator[Tree]:
             room = _new_room(name, holder, ending)
             os.mkdir(PARTS, dir_fd=room)
             parts = _kept(os.open(PARTS, READ, dir_fd=room), ending)
-        yield Tree(parts, most)
+        tree = Tree(parts, most)
+        ending.callback(tree.leave)
+        yield tree
         with cli.undisturbed():
             if is_there:
                 _move_parts(parts, holder, folder, last)

@@ -37,7 +37,7 @@ class Digests:
         return hashlib.sha256(memoryview(part.data)[part.offset : part.offset + part.length]).hexdigest()
 
 
-@dataclass(frozen=True)
+@dataclass
 class Entry:
     """A part of an image: its path (the path of a folder ends with a slash), from where its offset counts (`within`:
     the image, or the folder of an opened section), its kind, its type, its GUID and its name, and a note. `line` is a
@@ -78,7 +78,9 @@ class Place:
 def entries(image: Content, names: Names) -> Iterator[Entry]:
     """Yields the parts of an image that was read with its sections opened."""
     digests = Digests(LEAST_DIGESTED + TIMES_DIGESTED * len(image.data))
-    return (replace(it, digests=digests) for it in _Walk(names).image(image))
+    for it in _Walk(names).image(image):
+        it.digests = digests
+        yield it
 
 
 class _Walk:

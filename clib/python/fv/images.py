@@ -16,7 +16,7 @@ import contextlib
 import functools
 import uuid
 from collections.abc import Generator, Iterable, Iterator, Sequence
-from dataclasses import dataclass, field, replace
+from dataclasses import dataclass, field
 from typing import TypeVar
 
 from . import names
@@ -24,7 +24,7 @@ from ._calls import header_read, volume_cells, volume_tree, volume_unfix
 from ._errors import Fault, FaultError
 from ._library import Buffer
 from ._native import CellKind, FaultCode, NodeKind
-from ._types import Node
+from ._types import Cell, Node
 from .limits import Budget, Full, Limits
 from .opened import OUT_OF_MEMORY, PACKED, Closed, Way, frames, is_erased, open_section
 
@@ -34,6 +34,7 @@ SIGNATURE, BEFORE_SIGNATURE = b"\0\0\0\0_FVH", 4  # with the upper half of FvLen
 SHORTEST_HEADER, REVISION = 56, 2  # bytes of the header of a volume, and its revision
 EXTENDED_LENGTH_AT = 16  # in the extended header
 FILE_TYPE_AT, PAD_HEADER = 18, 24  # in the header of a file, and the bytes of the header of a pad file
+VOLUME_PARTS = 4  # parts that a volume counts for, because its header and its cells are read too
 HEAD = 64  # bytes that show what lies outside of volumes
 FIXED, ATTRIBUTES_AT = 0x04, 19  # the attribute of a file that may not be moved; where a file header has the attributes
 SYSTEMS = {2: "FFS2", 3: "FFS3"}
@@ -400,11 +401,11 @@ class Reader:
 
     def _header_fault(self, data: bytes, begin: int, end: int) -> Fault | None:
         """Returns the fault of a header, or None if it has none. Its block map may be long."""
-        self._budget.read_again(_number(data, begin + HEADER_LENGTH_AT, 2))
+        self._budget.header(_number(data, begin + HEADER_LENGTH_AT, 2))
         try:
             header_read(memoryview(data)[begin:end])
         except FaultError as error:
-            return replace(error.fault, offset=begin + error.fault.offset)
+            return _moved(error.fault, begin)
         return None
 
     def _with_unread(self, content: Found) -> Found:
@@ -442,15 +443,14 @@ class Reader:
         try:
             rows, is_marked = _tree_of(body)
         except FaultError as error:
-            self._budget.count(1)
+            self._budget.count(VOLUME_PARTS)
             # The codes before this one are the faults of headers.
             name = header_read(body).name if error.fault.code >= FaultCode.FILE_STATE else None
-            fault = replace(error.fault, offset=offset + error.fault.offset)
-            rejected = Volume(data, offset, length, name, fault=fault)
+            rejected = Volume(data, offset, length, name, fault=_moved(error.fault, offset))
             inside = "it is in a volume that is rejected"
             rejected.unread = list(self._headers(data, offset + 1, offset + length, inside))
             return rejected
-        self._budget.count(len(rows))
+        self._budget.count(len(rows) - 1 + VOLUME_PARTS)
         parts: list[Part] = []
         for row in rows:
             parts.append(_part(row, data, offset))
@@ -465,8 +465,9 @@ class Reader:
 
     def _add_unread(self, volume: Volume) -> None:
         """Adds the bytes of a volume whose contents are not read, and does the same for the volumes inside it."""
-        remains = list(_remains(volume))
-        self._budget.count(len(remains))
+        cells = volume_cells(volume.plain)
+        self._budget.count(len(cells) - len(volume.files))
+        remains = list(_remains(volume, cells))
         for inner in (it for file in volume.files for it in volumes_in(file.sections)):
             if not inner.fault:
                 self._add_unread(inner)
@@ -481,6 +482,11 @@ def _gap(part: Part) -> Unread:
     return Unread(part.data, part.offset, part.length, what, "it is in no volume", is_gap=True)
 
 
+def _moved(fault: Fault, start: int) -> Fault:
+    """Returns a fault with the offset in the data in which its volume begins at `start`."""
+    return Fault(fault.code, start + fault.offset, fault.depth, fault.input)
+
+
 def _what_volume(system: uuid.UUID, revision: int) -> str:
     """Returns what a volume is that is not read, by the GUID of its file system and the revision of its header."""
     if system in names.FILE_SYSTEMS:
@@ -488,12 +494,12 @@ def _what_volume(system: uuid.UUID, revision: int) -> str:
     return "volume" if revision == REVISION else f"volume of revision {revision}"
 
 
-def _remains(volume: Volume) -> Iterator[Unread]:
+def _remains(volume: Volume, cells: Sequence[Cell]) -> Iterator[Unread]:
     """Yields the pads and fillers of a volume that hold bytes, and its files that are not valid."""
     data, start = volume.data, volume.offset
     valid = {it.offset - it.header_length - start for it in volume.files}
     after = yield from _around_extended_header(volume)
-    for cell in volume_cells(volume.plain):
+    for cell in cells:
         at, end = start + cell.offset, start + cell.offset + cell.length
         if not is_erased(data, after, at):
             yield Unread(data, after, at - after, "filler", "bytes between two files")

@@ -23,7 +23,8 @@ class Limits:
     slow_times: int = 8
     wasted: int = 1 << 30  # bytes that are unpacked or read, but not kept
     sections: int = 1_000  # sections that are opened
-    parts: int = 100_000  # volumes, files and sections
+    parts: int = 100_000  # volumes, files and sections; a volume counts as four
+    headers: int = 100_000  # headers of volumes that are looked at
     depth: int = 8  # opened sections inside one another, and groups inside one another
     memory: int = 1 << 29  # bytes of memory for a decoder of LZMA
     signatures: int = 1_000_000  # places that look like the signature of a volume
@@ -48,7 +49,7 @@ class Budget:
         self._left = self._total
         self._most_slow = self._slow = min(limits.slow, limits.slow_least + limits.slow_times * size)
         self._wasted = limits.wasted
-        self._parts = self._tried = self._sections = self._signatures = 0
+        self._parts = self._tried = self._sections = self._signatures = self._headers = 0
         if size > limits.total:
             raise Full(f"{limits.total} bytes")
         self.keep(size)
@@ -68,11 +69,14 @@ class Budget:
         left."""
         self._wasted -= count
 
-    def read_again(self, count: int) -> None:
-        """Takes bytes that are read at a place where a volume may begin."""
+    def header(self, count: int) -> None:
+        """Takes a header of this many bytes, which is looked at where a volume may begin."""
+        self._headers += 1
+        if self._headers > self.limits.headers:
+            raise Full(f"{self.limits.headers} headers of volumes")
         self.waste(count)
         if self._wasted < 0:
-            raise Full(f"{self.limits.wasted} bytes that are not kept")
+            raise Full(f"{self.limits.wasted} bytes of headers")
 
     def work(self, count: int) -> None:
         """Takes symbols that Python itself unpacks."""

@@ -35,6 +35,7 @@ from .names import PE32, TE, Names
 from .shown import printable
 
 NAME = "fv-sbom"
+MOST_INDENTED = 10_000  # components of a bill that is written with indentation
 SPACE = uuid.UUID("5ba5b0f3-5f5a-4a53-9d1c-6f5f2b1c7d10")  # the name space of the serial numbers
 
 
@@ -111,5 +112,7 @@ def main(words: list[str]) -> int:
     cli.limit_memory()
     data = cli.read_for(NAME, given.image)
     parts = list(entries(images.read(data), Names()))
-    print(json.dumps(bill(os.path.basename(given.image), data, parts), indent=2))
+    made = bill(os.path.basename(given.image), data, parts)
+    # A very long bill has no indentation, because json is much quicker without it.
+    print(json.dumps(made, indent=2 if len(made["components"]) <= MOST_INDENTED else None))
     return status_of(parts)
