@@ -8,13 +8,16 @@
 #   make install-lib      after `make`: installs the library, with files for pkg-config, CMake and Python
 #   make uninstall        removes the installed program and the installed library
 #   make dist             makes out/capstanolive-VERSION.tar.gz from the files of the last commit
-#   make release          makes dist/ with all files of a release, which packaging/verify can make again and compare
+#   make release          after `.ci/run --strict`: makes dist/ with all files of a release, which packaging/verify can
+#                         make again and compare
 #   make version          writes VERSION into the files that show it
 #   make clean            removes out/ and clib/out/, but not the results of proofs
 #
 # `make install PREFIX=/usr DESTDIR=folder` puts the files for /usr into folder/usr. The targets that install prove
 # nothing, and write nothing into this folder.
 MAKEFLAGS += --no-builtin-rules
+# With it, `cd` in a recipe could go to another folder.
+unexport CDPATH
 VERSION := $(shell cat VERSION)
 OUT ?= out
 DIST ?= dist
@@ -124,6 +127,7 @@ dist:
 	git archive --format=tar.gz --prefix=capstanolive-$(VERSION)/ --output="$(OUT)/capstanolive-$(VERSION).tar.gz" HEAD
 
 release:
+	packaging/statement --is-complete
 	MAKEFLAGS= packaging/release "$(DIST)"
 
 # Python and Debian write a version under development in their own forms, which packaging/version knows.

@@ -1,5 +1,6 @@
 # SPDX-License-Identifier: BSD-2-Clause-Patent
-"""The parts that the checks in Python share: the folder of the repository, its files, and the form of a report."""
+"""The parts that the checks in Python share: the folder of the repository, its files, and the form of a report.
+.ci/skipping.bash describes how a check names what it skips."""
 
 from __future__ import annotations
 
@@ -9,6 +10,8 @@ import re
 from pathlib import Path
 
 ROOT = Path(__file__).resolve().parents[1]
+# The exit status of a check that could try nothing.
+NOTHING_TRIED = 77
 
 
 def read(path: str | Path) -> str:
@@ -33,6 +36,17 @@ def first_line(path: str) -> str:
     """Returns the first line of a file. Bytes that are not text are replaced."""
     with open(path, encoding="utf-8", errors="replace") as file:
         return file.readline(200)
+
+
+def skip(name: str, what: str, why: str) -> None:
+    """Prints the line for a thing that a check could not try."""
+    print(f"{name}: skipped: {what}, {why}")
+
+
+def skip_all(name: str, what: str, why: str) -> int:
+    """Prints the line for a check that can try nothing at all. Returns its exit status."""
+    skip(name, what, why)
+    return NOTHING_TRIED
 
 
 def report(name: str, wrong: list[str], summary: str = "") -> int:

@@ -4,12 +4,13 @@
 # $room/volume is a volume of one file, and $room/flash a flash image of two copies of it. $room/wanted has the lines
 # that examples/volumes.* print for this image, and $room/made has the images of recipes/images.py.
 set -euo pipefail
+unset CDPATH
 cd "$(dirname "${BASH_SOURCE[0]}")/.."
+source .ci/skipping.bash
 room=$(mktemp -d)
 trap 'rm -rf --one-file-system "$room"' EXIT
 chmod 755 "$room"
 umask 022
-skipped=()
 
 fail() { # WHAT
     echo "${0##*/}: $*" >&2
@@ -19,17 +20,6 @@ fail() { # WHAT
 # Runs a command, and shows its output only if it fails.
 quietly() { # COMMAND..
     "$@" > "$room/said" 2>&1 || { tail -n 30 "$room/said"; fail "failed: $*"; }
-}
-
-# Succeeds if a tool is installed. Otherwise notes that the check which needs the tool is skipped.
-has() { # TOOL WHAT
-    command -v "$1" > /dev/null || { skipped+=("$2 (no $1)"); return 1; }
-}
-
-# Prints what was skipped.
-show_skipped() {
-    local what
-    for what in "${skipped[@]}"; do echo "${0##*/}: skipped: $what"; done
 }
 
 # The volume is not canonical, because an image has another filler after the section.
@@ -42,7 +32,8 @@ python3 -B recipes/images.py "$room/made"
 # files that are installed beside them. WAY is the command that runs them, and FOLDER is for their output.
 tools_work() { # BIN MADE FOLDER [WAY..]
     local bin=$1 made=$2 parts=$3/parts way=("${@:4}" env -i PATH=/usr/bin:/bin) status=0
-    [[ $("${way[@]}" "$bin/fv-same" "$made/plain.fd" "$made/stored.fd") == same ]] || fail "fv-same does not say same"
+    said=$("${way[@]}" "$bin/fv-same" "$made/plain.fd" "$made/stored.fd")
+    [[ ${said%%$'\n'*} == same ]] || fail "fv-same says $said"
     "${way[@]}" "$bin/fv-same" --open "$made/firmware.fd" "$made/firmware-changed.fd" > "$room/said" || status=$?
     [[ $status == 1 && $(< "$room/said") == *'"Beta"'* ]] || fail "fv-same says $(< "$room/said")"
     "${way[@]}" "$bin/fv-unpack" "$made/firmware.fd" "$parts" > "$room/said" || true # a section of it is of an unknown kind

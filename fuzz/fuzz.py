@@ -25,7 +25,7 @@ import uuid
 from collections.abc import Callable, Iterable, Iterator, Sequence
 from dataclasses import dataclass, field
 from pathlib import Path
-from subprocess import PIPE, STDOUT
+from subprocess import PIPE
 from typing import TypeVar
 
 T = TypeVar("T")
@@ -831,17 +831,20 @@ class Tool:
         return path
 
     def start(self, words: list[str], given: str = os.devnull) -> Answer:
-        """Runs the program. The answer includes its text on standard error."""
+        """Runs the program. Checks that standard error explains the statuses 2 and 3, and is empty otherwise."""
         self.calls += 1
         argv, most = [self.program, *words], self.seconds
         with open(given, "rb") as stdin:
             try:
                 done = subprocess.run(
-                    argv, stdin=stdin, stdout=PIPE, stderr=STDOUT, timeout=most, close_fds=False, env=NONE, check=False
+                    argv, stdin=stdin, stdout=PIPE, stderr=PIPE, timeout=most, close_fds=False, env=NONE, check=False
                 )
             except subprocess.TimeoutExpired:
                 raise Wrong(f"{words}: no end within {most} seconds") from None
-        require(0 <= done.returncode <= 3, f"{words}: status {done.returncode}", done.stdout)
+        require(0 <= done.returncode <= 3, f"{words}: status {done.returncode}", done.stdout, done.stderr)
+        heads = (b"fvtool: ", b"This is fvtool ")  # of a message, and of the help
+        is_explained = done.stderr.startswith(heads) if done.returncode >= 2 else done.stderr == b""
+        require(is_explained, f"{words}: status {done.returncode}", done.stdout, done.stderr)
         return done.returncode, done.stdout
 
     def once(

@@ -4,10 +4,11 @@
 # check a run. A test sources this file and ends with `tried`. It works in a scratch folder, and writes nothing beside
 # the sources.
 set -euo pipefail
+unset CDPATH
 recipes=$(cd "$(dirname "${BASH_SOURCE[0]}")" && pwd)
+# shellcheck source=.ci/skipping.bash
+source "$recipes/../.ci/skipping.bash"
 export FVTOOL=${FVTOOL:-$recipes/../crates/fv_tool/out/fv_tool} PYTHONDONTWRITEBYTECODE=1 LC_ALL=C
-# The commands of the Python package fv, from the sources. The tests import the package, and images.py of this folder.
-export PATH=$recipes/../clib/python/bin:$PATH PYTHONPATH=$recipes/../clib/python:$recipes${PYTHONPATH:+:$PYTHONPATH}
 if ! command -v "$FVTOOL" > /dev/null; then
     echo "$FVTOOL is not there: ./fvtool < crates/fv_tool/stdin builds it" >&2
     exit 1
@@ -16,9 +17,17 @@ if [[ -n ${EDK2_BIN-} ]]; then EDK2_BIN=$(readlink -f "$EDK2_BIN"); fi
 room=$(mktemp -d)
 trap 'rm -rf "$room"' EXIT
 cd "$room"
+# The commands of the Python package fv, from the sources. The tests import the package, and images.py of this folder.
+# The folder itself is not in PYTHONPATH: Python would take the folder of a recipe, such as diffoscope, for a module of
+# that name which is not installed.
+mkdir modules
+ln -s "$recipes/images.py" modules
+export PATH=$recipes/../clib/python/bin:$PATH
+export PYTHONPATH=$recipes/../clib/python:$room/modules${PYTHONPATH:+:$PYTHONPATH}
 python3 "$recipes/images.py" images
 tries=0
 failures=0
+skips=0
 
 failed() { # WHAT
     failures=$((failures + 1))
@@ -75,7 +84,7 @@ has() { # TEXT LINE
 has_library() {
     export LIBFV=${LIBFV:-$recipes/../clib/out/libfv.so.2}
     if [[ ! -e $LIBFV ]]; then
-        skipped libfv
+        skipped libfv "which is not built (clib/build builds it)"
         return 1
     fi
 }
@@ -89,11 +98,16 @@ has_firmware() { # PACKAGE
     fi
 }
 
-skipped() { # WHAT IS MISSING
-    echo "skipped: $1"
+# Prints the line for a part of the test that needs something which is missing.
+skipped() { # WHAT IS MISSING [WHY]
+    skips=$((skips + 1))
+    skip "the part with $1" "${2:-which is not installed}"
 }
 
+# Ends a test: prints the number of tries, and fails if a try has failed. If nothing was tried, the status is
+# $NOTHING_TRIED.
 tried() {
     echo "$tries tries, $failures failed"
-    ((failures == 0))
+    ((failures == 0)) || return 1
+    ((tries > 0 || skips == 0)) || return "$NOTHING_TRIED"
 }

@@ -5,28 +5,30 @@
  * The meaning of a volume is the content of its header, files and sections, wherever they are stored, and whatever
  * pads, fillers and deleted files hold. Its canonical image is the one image that all volumes of that meaning share.
  *
- * Question                                                Call                      Input            Memory
- *   Do the bytes begin with a volume? How long is it?     fv_header_read            begins with one  none
- *   Where are the volumes of a flash image?               fv_image_scan             any bytes        1
- *   Which volumes of a flash image are canonical?         fv_image_check            any bytes        5
- *   What is a flash image with each volume canonical?     fv_image_normalise        any bytes        5
- *   Is a volume its own canonical image?                  fv_volume_is_canonical    a volume         5
- *   What is its canonical image?                          fv_volume_normalise       a volume         5
- *   What is a volume without the marks of fixed files?    fv_volume_unfix           a volume         none
- *   Which digest do all volumes of one meaning share?     fv_volume_digest          a volume         5
- *   Do two volumes mean the same? Where do they differ?   fv_volume_compare         two volumes      5, of both
- *   Where are files, pads, deleted files, free bytes?     fv_volume_cells           begins with one  3
- *   What is in a volume, at every level?                  fv_volume_tree            a volume         22
- *   Which digest does each of these parts have?           fv_volume_tree_digests    a volume         9
- *   What are the bytes of one of these parts?             fv_volume_extract         a volume         5
- *   Is a dependency expression true?                      fv_depex_evaluate         an expression    18
- *   Which blocks does a hand-off list have?               fv_hobs_read              begins with one  14
- *   What does a result mean?                              fv_result_text            a number         none
- *   Which version of the library is this?                 fv_version(_number)       none             none
+ * Question                                                Call                      Input                   Memory
+ *   Do the bytes begin with a volume? How long is it?     fv_header_read            a volume, then more     none
+ *   Where are the volumes of a flash image?               fv_image_scan             any bytes               1
+ *   Which volumes of a flash image are canonical?         fv_image_check            any bytes               5
+ *   What is a flash image with each volume canonical?     fv_image_normalise        any bytes               5
+ *   Is a volume its own canonical image?                  fv_volume_is_canonical    a volume                5
+ *   What is its canonical image?                          fv_volume_normalise       a volume                5
+ *   What is a volume without the marks of fixed files?    fv_volume_unfix           a volume                none
+ *   Which digest do all volumes of one meaning share?     fv_volume_digest          a volume                5
+ *   Do two volumes mean the same? Where do they differ?   fv_volume_compare         two volumes             5, of both
+ *   Where are files, pads, deleted files, free bytes?     fv_volume_cells           a volume, then more     3
+ *   What is in a volume, at every level?                  fv_volume_tree            a volume                22
+ *   Which digest does each of these parts have?           fv_volume_tree_digests    a volume                9
+ *   What are the bytes of one of these parts?             fv_volume_extract         a volume                5
+ *   Is a dependency expression true?                      fv_depex_evaluate         expression, then more   18
+ *   Which blocks does a hand-off list have?               fv_hobs_read              a list, then more       14
+ *   What is a GUID as text?                               fv_guid_text              a GUID                  none
+ *   Which GUID is in a text?                              fv_guid_parse             a text                  none
+ *   What does a result mean?                              fv_result_text            a number                none
+ *   Which version of the library is this?                 fv_version(_number)       none                    none
  *
- * Input: the noun in the name of a call says what its input is. "A volume" must be exactly one volume; bytes after it
- * are fault 8. If the input only "begins with one", the bytes after it are not read, and neither are the bytes after an
- * expression. Any bytes may be passed to any call: bytes that are not an input of this kind are rejected with a fault.
+ * Input: "a volume" must be exactly one volume, and bytes after it are fault 8. "Then more" means that other bytes may
+ * follow the volume, the list or the expression, and that the call does not read them. Any bytes may be passed to any
+ * call: bytes that are not an input of the right kind are rejected with a fault.
  * Memory: in addition to its arguments, a call takes up to this many times the size of the input. This was measured
  * for inputs that consist of tiny parts only, which cost most.
  * Stack: at most 20.5 KiB, as measured.
@@ -48,16 +50,18 @@
  * Results: FV_OK is success. If several other results are possible, a call returns the first of them in this order:
  *   FV_BAD_ARGUMENT      A pointer breaks rule 1, 2 or 3, or the phase is not one of FV_PHASE_*. No input was read, and
  *                        nothing was written, not even `fault`.
- *   1 to 24, 0x201 ..,   The first fault of the input. docs/FAULTS.md lists the faults and their order. 24 is out of
- *   0x301 ..             memory, in every call. It may replace any later result as soon as memory runs out; but a call
- *                        that reads its input as a volume returns it only if that input begins with the header of a
- *                        volume. Faults 22 and 23 of fv_volume_extract are about the requested part: `depth` counts
- *                        only groups and opened volumes inside this part. Only `fault` was written.
+ *   1 to 24, 0x201 ..,   The first fault of the input. FAULTS.md, which is installed beside the library's README, lists
+ *   0x301 ..             the faults and their order. 24 is out of memory, in every call. If memory runs out, a call
+ *                        returns 24 instead of the result that it would have returned with more memory. (But a call
+ *                        that reads an input as a volume returns 24 only if that input begins with the header of a
+ *                        volume.) Only `fault` was written.
+ *   FV_BAD_GUID          The text is not a GUID. Only fv_guid_parse returns this result. Nothing was written.
  *   FV_NOT_FOUND         The tree of the volume has no row with the number that was passed. Returned only if the input
  *                        is a volume. Only `fault` was written: its fields are 0.
- *   FV_BUFFER_TOO_SMALL  The buffer is too small. Returned only if the input has no fault and the part exists. Only the
- *                        counts (`count`, `length`, `list_length`, `found`) were written, as after FV_OK, and `fault`:
- *                        its fields are 0. So pass no buffer (NULL, and room 0) to ask for the number of rows or bytes.
+ *   FV_BUFFER_TOO_SMALL  The buffer is too small. Returned only if the input has no fault and the part exists. Then the
+ *                        counts (`count`, `length`, `list_length`, `found`) have the values that FV_OK would have given
+ *                        them, and the fields of `fault` are 0. Nothing else was written. So pass no buffer (NULL, and
+ *                        room 0) to ask for the number of rows or bytes.
  * After any result except FV_OK the buffer is unchanged. After FV_OK, and only then, rows or bytes are written: to the
  * start of the buffer. The rest of the buffer is unchanged.
  *
@@ -65,24 +69,31 @@
  *   - `reserved` is 0, and may get a meaning: do not read it.
  *   - Results may be added. Treat every result except FV_OK, FV_BUFFER_TOO_SMALL, FV_NOT_FOUND and FV_BAD_ARGUMENT as a
  *     fault of the input.
- *   - FV_CELL_*, FV_NODE_*, FV_CONTENT_*, FV_DEPEX_* and FV_PHASE_* get no new member.
+ *   - FV_CELL_*, FV_NODE_*, FV_CONTENT_*, FV_DEPEX_* and FV_PHASE_* get no new member. FV_FILE_* and FV_SECTION_* may.
  *   - `efi_type` and `attributes` are bytes of the input, so they may have any value.
  *
  * All lengths and offsets are in bytes. A GUID has its bytes as in the volume: the least significant byte of each of
  * the first three fields comes first.
  *
- * Rows: a field is as stored in the input, or part of the meaning (so the canonical image has it too), or both.
- *   fv_header, fv_cell, fv_hob  As stored. All cells are listed, also superseded and deleted files, which the meaning
- *                               does not have.
- *   fv_node                     `offset` is as stored, and so is the `header_length` of a file. All other fields are
- *                               part of the meaning.
- * fv_volume_extract and fv_volume_tree_digests are about the bytes that the canonical image has.
+ * Rows: two volumes of one meaning can have their parts at other places. So these fields depend on how the input is
+ * stored:
+ *   fv_header, fv_cell, fv_hob  All fields. All cells are listed, also superseded and deleted files, although these are
+ *                               not part of the meaning.
+ *   fv_node                     `offset` and, for a file, `header_length`. All other fields depend only on the meaning:
+ *                               volumes of one meaning, such as a volume and its canonical image, have the same rows
+ *                               except for these two fields.
+ * The bytes that fv_volume_extract writes, and that the digests of fv_volume_tree_digests cover, are those of the
+ * canonical image, so they depend only on the meaning too.
  *
- * Proofs: the calls are written in Rattle, below a layer in C. Each call is proved to do what its comment here says, if
- * that layer accepts its pointers, except for two statements: which faults a call can return, and which input a
- * comparison reports when it runs out of memory. This header, the layer (src/calls.c: FV_BAD_ARGUMENT, and NULL in
- * place of an empty argument), src/heap.c and src/result_text.c are not proved. The proofs hold only if the caller
- * keeps the rules 4 to 6. */
+ * Proofs: the calls from fv_header_read to fv_hobs_read are written in Rattle, below a layer in C. Each of them is
+ * proved to do what its comment here says, if that layer accepts its pointers, except for these statements:
+ *   - which faults a call can return;
+ *   - which input fv_volume_compare reports when memory runs out;
+ *   - how often fv_volume_tree and fv_volume_tree_digests read the input, and that no image is kept in memory;
+ *   - the numbers for memory and stack above, which were measured.
+ * This header, the layer (src/calls.c: FV_BAD_ARGUMENT, and NULL in place of an empty argument), fv_guid_text and
+ * fv_guid_parse (src/guid.c), src/heap.c and src/result_text.c are plain C, and not proved. The proofs hold only if the
+ * caller keeps the rules 4 to 6. */
 #ifndef FV_H
 #define FV_H
 
@@ -97,6 +108,7 @@
 
 #define FV_LENGTH_MAX 268435456u /* the most bytes of a volume, and of an image that is checked or normalised */
 #define FV_DIFFERENCE_SIZE 553   /* the most bytes of the text of fv_volume_compare, its NUL included */
+#define FV_GUID_TEXT_SIZE 37     /* the bytes of the text of fv_guid_text, its NUL included */
 #define FV_NO_PARENT UINT64_MAX  /* the parent of the first row of a tree */
 
 /* FV_.._ are for this header only, which undefines them at its end. */
@@ -123,8 +135,8 @@
 FV_ASSERT_(sizeof(size_t) == 8 && sizeof(void *) == 8, "libfv is for 64-bit systems");
 
 /* The result of a call. The bits from 8 on show what the result is about: 0 a volume or an image, 1 the call, 2 a
- * dependency expression, 3 a hand-off list. For 0, 2 and 3 the low byte is the number of the fault in docs/FAULTS.md;
- * but out of memory is 24 in every call. fv_result_text has a sentence for each result. */
+ * dependency expression, 3 a hand-off list. For 0, 2 and 3 the low byte is the number of the fault in FAULTS.md; but
+ * out of memory is 24 in every call. fv_result_text has a sentence for each result. */
 typedef uint32_t fv_result;
 enum {
     FV_OK = 0,
@@ -155,6 +167,7 @@ enum {
     FV_BUFFER_TOO_SMALL = 0x100,
     FV_NOT_FOUND = 0x101,
     FV_BAD_ARGUMENT = 0x102,
+    FV_BAD_GUID = 0x103,
     FV_FAULT_DEPEX_SHORT = 0x201,
     FV_FAULT_DEPEX_OPCODE = 0x202,
     FV_FAULT_DEPEX_STACK = 0x203,
@@ -180,6 +193,47 @@ enum { FV_NODE_VOLUME = 1, FV_NODE_FILE = 2, FV_NODE_SECTION = 3 };
  * 0x0F, and bytes otherwise, also for a security core (0x03). A file of these types, or a group, holds sections even if
  * it has no bytes: then no row is below its row. */
 enum { FV_CONTENT_FILES = 0, FV_CONTENT_BYTES = 1, FV_CONTENT_SECTIONS = 2, FV_CONTENT_VOLUME = 3 };
+
+/* The types of files, with the names of the specification after EFI_FV_FILETYPE_. A file may have any other type too:
+ * 0xC0 to 0xDF are for vendors, and 0xE0 to 0xEF for debugging. */
+enum {
+    FV_FILE_RAW = 0x01,
+    FV_FILE_FREEFORM = 0x02,
+    FV_FILE_SECURITY_CORE = 0x03,
+    FV_FILE_PEI_CORE = 0x04,
+    FV_FILE_DXE_CORE = 0x05,
+    FV_FILE_PEIM = 0x06,
+    FV_FILE_DRIVER = 0x07,
+    FV_FILE_COMBINED_PEIM_DRIVER = 0x08,
+    FV_FILE_APPLICATION = 0x09,
+    FV_FILE_MM = 0x0A,
+    FV_FILE_FIRMWARE_VOLUME_IMAGE = 0x0B,
+    FV_FILE_COMBINED_MM_DXE = 0x0C,
+    FV_FILE_MM_CORE = 0x0D,
+    FV_FILE_MM_STANDALONE = 0x0E,
+    FV_FILE_MM_CORE_STANDALONE = 0x0F,
+    FV_FILE_FFS_PAD = 0xF0
+};
+
+/* The types of sections, with the names of the specification after EFI_SECTION_. A section may have any other type
+ * too. */
+enum {
+    FV_SECTION_COMPRESSION = 0x01,
+    FV_SECTION_GUID_DEFINED = 0x02,
+    FV_SECTION_DISPOSABLE = 0x03,
+    FV_SECTION_PE32 = 0x10,
+    FV_SECTION_PIC = 0x11,
+    FV_SECTION_TE = 0x12,
+    FV_SECTION_DXE_DEPEX = 0x13,
+    FV_SECTION_VERSION = 0x14,
+    FV_SECTION_USER_INTERFACE = 0x15,
+    FV_SECTION_COMPATIBILITY16 = 0x16,
+    FV_SECTION_FIRMWARE_VOLUME_IMAGE = 0x17,
+    FV_SECTION_FREEFORM_SUBTYPE_GUID = 0x18,
+    FV_SECTION_RAW = 0x19,
+    FV_SECTION_PEI_DEPEX = 0x1B,
+    FV_SECTION_MM_DEPEX = 0x1C
+};
 
 /* The phase in which a dependency expression is evaluated. FV_PHASE_DXE is for DXE and for MM. */
 enum { FV_PHASE_PEI = 0, FV_PHASE_DXE = 1 };
@@ -262,7 +316,7 @@ typedef struct fv_cell {
     uint64_t length;        /* the number of its bytes */
     uint32_t kind;          /* FV_CELL_* */
     uint32_t header_length; /* of a valid file or a pad, 24 or 32: its data begin at offset + header_length */
-    uint32_t efi_type;      /* Type of a valid file or a pad */
+    uint32_t efi_type;      /* Type of a valid file or a pad: FV_FILE_* or another */
     uint32_t attributes;    /* Attributes of a valid file or a pad, as stored: with 0x01 if its header is large */
     fv_guid name;           /* Name of a valid file or a pad */
     uint64_t reserved;      /* 0 */
@@ -282,7 +336,7 @@ typedef struct fv_node {
     uint32_t depth;         /* the number of rows around it */
     uint32_t kind;          /* FV_NODE_* */
     uint32_t content;       /* FV_CONTENT_* */
-    uint32_t efi_type;      /* Type of a file or a section */
+    uint32_t efi_type;      /* Type of a file (FV_FILE_* or another) or of a section (FV_SECTION_* or another) */
     uint32_t attributes;    /* Attributes of a volume; of a file, without bit 0x01 (it is set if header_length is 32) */
     uint32_t header_length; /* HeaderLength of a volume; file: 24 or 32, section: 4 or 8; their header ends at offset */
     fv_guid guid;           /* FvName of a volume, or zeros if it has none; Name of a file */
@@ -423,7 +477,9 @@ FV_CHECKED_ fv_result fv_volume_tree_digests(const void *volume, size_t size, fv
  * volume. Plain data, and the body of a section that holds bytes, are as they are in the input.
  * Returns FV_OK, or FV_BUFFER_TOO_SMALL if buffer_size < *length. Returns FV_NOT_FOUND if the tree has no row with this
  * number. Otherwise returns the first fault, 1 to 21; or 22 or 23, if the part is a volume, or holds one, that does not
- * fit in its canonical form; or 24. Leaves *length unchanged after a fault and after FV_NOT_FOUND. */
+ * fit in its canonical form; or 24. For 22 and 23, fault->depth counts only the groups and opened volumes within the
+ * part: it is 0 for the volume that is the part itself, and for the volume that is the whole body of the section.
+ * Leaves *length unchanged after a fault and after FV_NOT_FOUND. */
 FV_CHECKED_ fv_result fv_volume_extract(const void *volume, size_t size, size_t row, void *buffer, size_t buffer_size,
                                         size_t *length, fv_fault *fault);
 
@@ -441,6 +497,18 @@ FV_CHECKED_ fv_result fv_depex_evaluate(const void *expression, size_t size, uin
  * table. */
 FV_CHECKED_ fv_result fv_hobs_read(const void *list, size_t size, fv_hob *rows, size_t room, size_t *count,
                                    size_t *list_length, fv_fault *fault);
+
+/* Writes a GUID as text to the start of `text`: 36 characters in lower case, as in
+ * 8c8ce578-8a3d-4f1c-9935-896185c32dd3, and a NUL.
+ * Returns FV_OK, or FV_BUFFER_TOO_SMALL if text_size < FV_GUID_TEXT_SIZE. */
+FV_CHECKED_ fv_result fv_guid_text(const fv_guid *guid, char *text, size_t text_size);
+
+/* Reads a GUID from a text such as 8c8ce578-8a3d-4f1c-9935-896185c32dd3, with digits of either case. The text ends
+ * before its first NUL, or after text_size bytes, so text_size may be its length or the size of its buffer. No byte
+ * after a NUL is read.
+ * Returns FV_OK. Returns FV_BAD_GUID if the text has another form, also with braces or spaces, and leaves *guid
+ * unchanged. */
+FV_CHECKED_ fv_result fv_guid_parse(const char *text, size_t text_size, fv_guid *guid);
 
 #undef FV_ASSERT_
 #undef FV_CHECKED_

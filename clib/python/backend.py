@@ -24,6 +24,8 @@ HERE = Path(__file__).resolve().parent
 LIBRARY = "libfv.so.2"
 # The licence of this repository, and the licences of the code that is linked in: each file, and its place here.
 LICENCES = {"LICENSE": HERE.parent.parent / "LICENSE", "copyright": HERE.parent.parent / "packaging/copyright"}
+# The machines of libraries: the names that the tags of wheels have for them, by e_machine in the header of an ELF file.
+MACHINES = {62: "x86_64", 183: "aarch64", 243: "riscv64"}
 # The date of all files: the earliest that a zip archive can hold.
 DATE = (1980, 1, 1, 0, 0, 0)
 
@@ -33,7 +35,10 @@ def first_of(what: str, *places: Path) -> bytes:
     for place in places:
         if place.exists():
             return place.read_bytes()
-    raise SystemExit(f"libfv: {what} is not there: clib/build makes it, or LIBFV names it")
+    raise SystemExit(
+        f"libfv: {what} is not there: clib/build makes it with the kit, or LIBFV names it. Without the kit, install the"
+        " wheel or the packages of a release (docs/INSTALL.md)."
+    )
 
 
 def package() -> list[Path]:
@@ -50,11 +55,24 @@ def sources() -> dict[str, bytes]:
     return found | {name: first_of(name, HERE / name, place) for name, place in LICENCES.items()}
 
 
+def machine(library: bytes) -> str:
+    """Returns the name of the machine for which a library is built. Ends this script if the library is not a 64-bit
+    little-endian ELF file for one of MACHINES."""
+    if len(library) < 20 or library[:6] != b"\x7fELF\x02\x01":
+        raise SystemExit(f"libfv: {LIBRARY} is not a 64-bit little-endian ELF file, so no wheel can have it")
+    number = int.from_bytes(library[18:20], "little")
+    if number not in MACHINES:
+        known = ", ".join(MACHINES.values())
+        raise SystemExit(f"libfv: {LIBRARY} is for a machine without a tag (e_machine {number}); wheels are made for {known}")
+    return MACHINES[number]
+
+
 def tag(library: bytes) -> str:
-    """Returns the tag of a wheel with the library: any Python 3 on Linux on x86-64, with the newest version of the C
-    library among the library's symbols (objdump -T shows them), but at least 2.5, the first version that has a tag."""
+    """Returns the tag of a wheel with the library: any Python 3 on Linux on the library's machine, with the newest
+    version of the C library among the library's symbols (objdump -T shows them), but at least 2.5, the first version
+    that has a tag."""
     versions = re.findall(rb"\0GLIBC_2\.(\d+)[.\d]*(?=\0)", library)
-    return f"py3-none-manylinux_2_{max(5, *map(int, versions))}_x86_64"
+    return f"py3-none-manylinux_2_{max([5, *map(int, versions)])}_{machine(library)}"
 
 
 def project() -> str:
@@ -110,10 +128,12 @@ def title() -> str:
 
 def metadata() -> bytes:
     """Returns the file METADATA of a wheel, which is also PKG-INFO of a source archive."""
-    lines = ["Metadata-Version: 2.4", f"Name: {field('name')}", f"Version: {version()}"]
+    # The metadata are of version 2.1, whose field License every pip shows. The pip of Debian 12 does not know the field
+    # License-Expression of version 2.4, which forbids License beside it.
+    lines = ["Metadata-Version: 2.1", f"Name: {field('name')}", f"Version: {version()}"]
     lines += [f"Summary: {field('description')}", f"Author-email: {author()}"]
     lines += [f"Keywords: {','.join(texts('keywords'))}", *(f"Classifier: {it}" for it in texts("classifiers"))]
-    lines += [f"License-Expression: {field('license')}", *(f"License-File: {it}" for it in LICENCES)]
+    lines += [f"License: {field('license')}"]
     lines += [f"Requires-Python: {field('requires-python')}"]
     lines += ["Description-Content-Type: text/markdown", ""]
     return "\n".join(lines).encode() + b"\n" + (HERE / "README.md").read_bytes()

@@ -1,6 +1,6 @@
 /* SPDX-License-Identifier: BSD-2-Clause-Patent */
 // Tries the library from C++, with a vector for each buffer: the image of a volume, whether the image is its own image,
-// and the data of its files. A vector without elements may have a null pointer.
+// the data of its files, and their names as text. A vector without elements may have a null pointer.
 #include <fv.h>
 #include <algorithm>
 #include <cstdio>
@@ -35,6 +35,13 @@ int main(int, char **argv)
         if (length != data.size() || !std::equal(data.begin(), data.end(), stored)) return 1;
         files++;
     }
+    if (!std::all_of(tree.begin() + 1, tree.end(), [](const fv_node &node) {
+            char text[FV_GUID_TEXT_SIZE];
+            fv_guid again{};
+            return !fv_guid_text(&node.guid, text, sizeof text) && !fv_guid_parse(text, sizeof text, &again) &&
+                   std::equal(std::begin(again.bytes), std::end(again.bytes), std::begin(node.guid.bytes));
+        }))
+        return 1;
     const std::vector<uint8_t> nothing;
     std::vector<fv_header> none;
     if (fv_image_scan(nothing.data(), nothing.size(), none.data(), none.size(), &count, nullptr) || count) return 1;

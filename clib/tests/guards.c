@@ -31,7 +31,7 @@ static struct room open_room(size_t least)
 {
     size_t page = (size_t)sysconf(_SC_PAGESIZE), size = (least + page - 1) / page * page;
     uint8_t *p = mmap(NULL, size + 2 * page, PROT_NONE, MAP_PRIVATE | MAP_ANONYMOUS, -1, 0);
-    if (p == MAP_FAILED || mprotect(p + page, size, PROT_READ | PROT_WRITE)) exit(3);
+    if (p == MAP_FAILED || (size && mprotect(p + page, size, PROT_READ | PROT_WRITE))) exit(3);
     return (struct room){p + page, size};
 }
 

@@ -199,9 +199,9 @@ def test_doubts() -> None:
     sum_of = struct.pack("<I", zlib.crc32(text))
     cases: list[tuple[bytes, list[str]]] = [(made.guided(made.LZMA, whole + filler), []) for filler in (b"", bytes(9))]
     cases.append((made.guided(made.LZMA, whole + b"more"), ["4 bytes follow the packed data"]))
-    for stored, doubts in ((sum_of, []), (bytes(4), ["the CRC32 is wrong"])):
+    for stored, doubt in ((sum_of, ""), (bytes(4), "the CRC32 is wrong")):
         head = made.CRC32.bytes_le + struct.pack("<HH", 28, 1) + stored
-        cases.append((made.section(made.GUIDED, head + text), doubts))
+        cases.append((made.section(made.GUIDED, head + text), [doubt] if doubt else []))
     for length in (len(text), 5):
         wrong = ["the contents have another length than the header says"] * (length == 5)
         cases.append((made.section(0x01, struct.pack("<IB", length, 0) + text), wrong))

@@ -31,7 +31,7 @@ ROOT = Path(__file__).resolve().parents[2]
 # An installed copy, or a copy that PYTHONPATH names, is used first.
 sys.path.append(str(ROOT / "clib/python"))
 import fv
-from fv import _library, _native
+from fv import _library, _native, names
 
 Call = Callable[..., Any]
 A, B = uuid.UUID(int=1), uuid.UUID(int=2)
@@ -120,12 +120,14 @@ def hob(kind: int, length: int, fields: bytes = b"") -> bytes:
 
 
 def calls_are_all() -> None:
-    """Checks that the package has a function with the name of each call of fv.h, and nothing else except its types."""
-    named = re.findall(r"\bFV_(?:API|CHECKED)_ [^;]*?\b(fv_\w+)\(", (ROOT / "clib/include/fv.h").read_text("utf-8"))
-    assert len(named) == 18 and sorted(named) == sorted(_native.CALLS), named
+    """Checks that the package has a function with the name of each call of fv.h, except the calls for the text of GUIDs,
+    and nothing else except its types."""
+    declared = re.findall(r"\bFV_(?:API|CHECKED)_ [^;]*?\b(fv_\w+)\(", (ROOT / "clib/include/fv.h").read_text("utf-8"))
+    named = [it for it in declared if not it.startswith("fv_guid_")]
+    assert (len(declared), len(named)) == (20, 18) and sorted(named) == sorted(_native.CALLS), declared
     public = set(fv.__all__) - {it.removeprefix("fv_") for it in named}
     assert len(public) == len(fv.__all__) - len(named), public
-    assert all(isinstance(getattr(fv, it), type) for it in public - {"LENGTH_MAX"}), public
+    assert all(isinstance(getattr(fv, it), type) for it in public - {"Buffer", "LENGTH_MAX"}), public
     assert fv.LENGTH_MAX == 2**28 and fv.version_number() >> 16 == 2 and fv.version().startswith("2.")
     assert re.sub(r"[.-]?dev\d*$", "", fv.__version__) == re.sub(r"-dev$", "", fv.version())
 
@@ -152,13 +154,20 @@ def layouts_are_those_of_c() -> int:
 def libraries_are_asked() -> None:
     """Checks that the first call fails if the library is missing, is another file, or has another major number."""
 
-    def said(library: str | Path) -> str:
+    def said(library: str | Path, package: Path = Path(fv.__file__).parent) -> str:
         run = "import fv\ntry: fv.version()\nexcept ImportError as error: print(error.name, error.path, error)"
-        named = {**os.environ, "LIBFV": str(library), "PYTHONPATH": str(Path(fv.__file__).parents[1])}
+        named = {**os.environ, "LIBFV": str(library), "PYTHONPATH": str(package.parent)}
         command = [sys.executable, "-B", "-c", run]
         return subprocess.run(command, env=named, capture_output=True, text=True, check=True).stdout
 
-    assert said("/missing/libfv.so.2").startswith("fv /missing/libfv.so.2 /missing/libfv.so.2: cannot open"), "missing"
+    missing = said("/missing/libfv.so.2")
+    assert missing.startswith("fv /missing/libfv.so.2 /missing/libfv.so.2: cannot open"), missing
+    assert "install the packages" not in missing, missing
+    with tempfile.TemporaryDirectory() as room:
+        # The package without its library: nothing is said if the system's loader finds one.
+        package = Path(shutil.copytree(Path(fv.__file__).parent, Path(room, "fv"), ignore=shutil.ignore_patterns("*.so*")))
+        missing = said("", package)
+        assert not missing or "(install the packages or the wheel of a release; or build" in missing, missing
     assert "invalid ELF header" in said(__file__) or "file too short" in said(__file__), said(__file__)
     compiler = shutil.which(os.environ.get("CC", "cc"))
     if not compiler:
@@ -195,11 +204,21 @@ def faults_have_codes(volume: bytes) -> None:
     assert known == {it.name: it for it in fv.FaultCode} and len(known) == 33
     assert fv._errors.fault_of(7, 99, 1, 0) == fv.Fault(99, 7, 1) and type(fv._errors.fault_of(7, 99, 1, 0).code) is int
     results = [*known.values(), _native.OK, _native.OUT_OF_MEMORY, _native.BUFFER_TOO_SMALL, _native.NOT_FOUND]
-    results.append(_native.BAD_ARGUMENT)
+    results += [_native.BAD_ARGUMENT, _native.BAD_GUID]
     texts = {fv.result_text(it) for it in results}
     none = fv.result_text(2**32 - 1)
     assert len(texts) == len(results) and none not in texts
     assert all(fv.result_text(it) == none for it in range(0x400) if it not in results)
+
+
+def types_are_those_of_the_header() -> None:
+    """Checks that the types of files and sections have the names and numbers of fv.h, and that fv.names has a name for
+    each of them."""
+    header = (ROOT / "clib/include/fv.h").read_text(encoding="utf-8")
+    for prefix, kind in (("FILE", fv.FileType), ("SECTION", fv.SectionType)):
+        known = {name: int(number, 0) for name, number in re.findall(rf"\bFV_{prefix}_(\w+) = (\w+)", header)}
+        assert known == {it.name: it for it in kind} and len(known) >= 15, known
+    assert {*fv.FileType} == {*names.FILES, fv.FileType.FFS_PAD} and {*fv.SectionType} == {*names.SECTIONS}
 
 
 def faults_are_documented() -> None:
@@ -562,6 +581,7 @@ def main(paths: list[str]) -> None:
     volume = volume_of(b"\x05\x00\x00\x19z")
     assert fv.volume_is_canonical(volume)
     calls_are_all()
+    types_are_those_of_the_header()
     offsets = layouts_are_those_of_c()
     libraries_are_asked()
     faults_have_codes(volume)

@@ -58,6 +58,9 @@ void try_volume(const uint8_t *bytes, size_t len, const uint8_t *parameters);
 void try_image(const uint8_t *bytes, size_t len, const uint8_t *parameters);
 void try_expression(const uint8_t *bytes, size_t len, const uint8_t *parameters);
 void try_hand_off_list(const uint8_t *bytes, size_t len, const uint8_t *parameters);
+
+/* Tries the calls for the text of a GUID, over each input. */
+void try_guid(const uint8_t *bytes, size_t len);
 void try_pair(const uint8_t *bytes, size_t len, const uint8_t *parameters);
 
 #endif

@@ -54,6 +54,7 @@ int LLVMFuzzerTestOneInput(const uint8_t *data, size_t size)
     memcpy(bytes, data + PARAMETERS, len);
     runs++;
     try_input(bytes, len, data);
+    try_guid(bytes, len);
     CHECK(!memcmp(bytes, data + PARAMETERS, len), "an input was written to");
     return 0;
 }

@@ -373,7 +373,7 @@ def run_engine(fleet: Fleet, name: str, is_killed: bool) -> bool:
     """Returns whether the run of an engine was right, and prints a line about it."""
     by_engine, programs = ENGINES[name]
     if not all(map(shutil.which, programs)):
-        print(f"{name}: SKIPPED, {' or '.join(programs)} is not installed")
+        print(f"skipped: the run with {name}, {' or '.join(programs)} is not installed")
         return True
     it, before = Run(fleet, name, is_killed), seconds_of_children()
     try:

@@ -393,7 +393,7 @@ def main() -> None:
         if needed and (shutil.which(needed) or Path(needed).exists()):
             test()
         else:
-            print(f"{test.__name__}: SKIPPED, it is not installed")
+            print(f"skipped: the maps with {needed or 'Chromium'}, which is not installed")
 
 
 if __name__ == "__main__":

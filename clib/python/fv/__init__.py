@@ -20,7 +20,8 @@
     fv.result_text(code)            a sentence that explains a fault
     fv.version()                    the version of the library
 
-The functions have the names of the calls in fv.h, without `fv_`. An `image` may be any bytes, and a `volume` must be
+The functions have the names of the calls in fv.h, without `fv_`. (fv_guid_text and fv_guid_parse have no function here:
+a GUID is a uuid.UUID.) An `image` may be any bytes, and a `volume` must be
 exactly one volume. `data` begin with the volume or the list that is read, and the bytes after it are ignored.
 
 An input may be any object with the buffer protocol: bytes, bytearray, memoryview, mmap. A bytes object is read in
@@ -33,7 +34,9 @@ Any number of threads may call at once. A process that has threads must not call
 forked: let multiprocessing use spawn or forkserver.
 
 The returned values are immutable. Headers, checks, cells, nodes, digests and blocks come in a sequence that makes each
-of them when you access it. A field that a part does not have is None.
+of them when you access it. A field that a part does not have is None. An `efi_type` is an int, because firmware may
+have any value there; compare it with a member of FileType or SectionType. Buffer is the type of an input, for type
+hints.
 
 A rejected input raises FaultError, a ValueError whose `fault` is the reason. Running out of memory raises MemoryError.
 The number of a row that does not exist raises IndexError. The first call raises ImportError if the library is missing,
@@ -71,15 +74,15 @@ from ._calls import (
     volume_unfix,
 )
 from ._errors import Error, Fault, FaultError
-from ._library import result_text
-from ._native import LENGTH_MAX, CellKind, Content, FaultCode, NodeKind, Phase
+from ._library import Buffer, result_text
+from ._native import LENGTH_MAX, CellKind, Content, FaultCode, FileType, NodeKind, Phase, SectionType
 from ._types import Cell, Header, Hob, HobList, Node, VolumeCheck
 
 __version__ = "2.1.0.dev0"
 __all__ = [
-    "LENGTH_MAX", "Cell", "CellKind", "Content", "Error", "Fault", "FaultCode", "FaultError", "Header", "Hob",
-    "HobList", "Node", "NodeKind", "Phase", "VolumeCheck", "depex_evaluate", "header_read", "hobs_read", "image_check",
-    "image_normalise", "image_scan", "result_text", "version", "version_number", "volume_cells", "volume_compare",
-    "volume_digest", "volume_extract", "volume_is_canonical", "volume_normalise", "volume_tree", "volume_tree_digests",
-    "volume_unfix",
+    "LENGTH_MAX", "Buffer", "Cell", "CellKind", "Content", "Error", "Fault", "FaultCode", "FaultError", "FileType",
+    "Header", "Hob", "HobList", "Node", "NodeKind", "Phase", "SectionType", "VolumeCheck", "depex_evaluate",
+    "header_read", "hobs_read", "image_check", "image_normalise", "image_scan", "result_text", "version",
+    "version_number", "volume_cells", "volume_compare", "volume_digest", "volume_extract", "volume_is_canonical",
+    "volume_normalise", "volume_tree", "volume_tree_digests", "volume_unfix",
 ]  # fmt: skip

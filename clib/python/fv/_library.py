@@ -28,6 +28,11 @@ else:
 
 # The name of the shared object, in this package and for the system's loader.
 NAME = f"libfv.so.{native.VERSION_MAJOR}"
+# What to do if there is no library.
+WITHOUT_LIBRARY = (
+    "install the packages or the wheel of a release; or build the library with clib/build, which needs the kit"
+    " (docs/INSTALL.md)"
+)
 
 
 class _Library:
@@ -51,6 +56,7 @@ def _load() -> c.CDLL:
     another major number."""
     own = Path(__file__).with_name(NAME)
     path = os.environ.get("LIBFV") or (str(own) if own.exists() else NAME)
+    hint = f" ({WITHOUT_LIBRARY})" if path == NAME else ""
     try:
         library = c.CDLL(path)
         number: int = library.fv_version_number()
@@ -58,7 +64,7 @@ def _load() -> c.CDLL:
             native.declare(library)
             return library
     except (OSError, AttributeError) as error:
-        raise ImportError(str(error), name="fv", path=path) from error
+        raise ImportError(f"{error}{hint}", name="fv", path=path) from error
     found = f"{path} is libfv {number >> 16}.{number >> 8 & 0xFF}"
     raise ImportError(f"{found}, not libfv {native.VERSION_MAJOR}", name="fv", path=path)
 

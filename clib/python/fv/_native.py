@@ -16,6 +16,7 @@ VERSION_PATCH = 0
 VERSION_NUMBER = 0x020100
 LENGTH_MAX = 268435456
 DIFFERENCE_SIZE = 553
+GUID_TEXT_SIZE = 37
 NO_PARENT = 2**64 - 1
 
 # The results of calls, except the faults.
@@ -24,6 +25,7 @@ OUT_OF_MEMORY = 24
 BUFFER_TOO_SMALL = 0x100
 NOT_FOUND = 0x101
 BAD_ARGUMENT = 0x102
+BAD_GUID = 0x103
 
 # The value of a dependency expression. BEFORE and AFTER only say in which order drivers run, and have no truth value:
 # FV_DEPEX_ORDER.
@@ -137,6 +139,49 @@ class Content(enum.IntEnum):
     BYTES = 1
     SECTIONS = 2
     VOLUME = 3
+
+
+class FileType(enum.IntEnum):
+    """The types of files, with the names of the specification after EFI_FV_FILETYPE_. A file may have any other type
+    too: 0xC0 to 0xDF are for vendors, and 0xE0 to 0xEF for debugging."""
+
+    RAW = 0x01
+    FREEFORM = 0x02
+    SECURITY_CORE = 0x03
+    PEI_CORE = 0x04
+    DXE_CORE = 0x05
+    PEIM = 0x06
+    DRIVER = 0x07
+    COMBINED_PEIM_DRIVER = 0x08
+    APPLICATION = 0x09
+    MM = 0x0A
+    FIRMWARE_VOLUME_IMAGE = 0x0B
+    COMBINED_MM_DXE = 0x0C
+    MM_CORE = 0x0D
+    MM_STANDALONE = 0x0E
+    MM_CORE_STANDALONE = 0x0F
+    FFS_PAD = 0xF0
+
+
+class SectionType(enum.IntEnum):
+    """The types of sections, with the names of the specification after EFI_SECTION_. A section may have any other type
+    too."""
+
+    COMPRESSION = 0x01
+    GUID_DEFINED = 0x02
+    DISPOSABLE = 0x03
+    PE32 = 0x10
+    PIC = 0x11
+    TE = 0x12
+    DXE_DEPEX = 0x13
+    VERSION = 0x14
+    USER_INTERFACE = 0x15
+    COMPATIBILITY16 = 0x16
+    FIRMWARE_VOLUME_IMAGE = 0x17
+    FREEFORM_SUBTYPE_GUID = 0x18
+    RAW = 0x19
+    PEI_DEPEX = 0x1B
+    MM_DEPEX = 0x1C
 
 
 class Phase(enum.IntEnum):

@@ -104,7 +104,8 @@ def breakable(name: str) -> str:
 
 
 Box = tuple[float, float, float, float]
-Stripe = tuple[int, int, str, str, str]  # a part of a strip: offset, length, colour, title, the place that it leads to
+# A part of a strip: its offset, its length, its colour, its title or its file, and the place that it leads to.
+Stripe = tuple[int, int, str, "str | Row", str]
 
 
 def worst_side(total: float, largest: float, smallest: float, short: float) -> float:
@@ -269,7 +270,8 @@ class Page:
 
     def part(self, part: Stripe, whole: int) -> None:
         """Adds a part of a strip, with its name on it if there is room."""
-        at, length, color, title, place = part
+        at, length, color, named, place = part
+        title = named.name if isinstance(named, Row) else named
         sides = f"left:{100 * at / whole:.4f}%;right:{100 * (whole - at - length) / whole:.4f}%"
         about = text(f"{title}\nat {offset(at)}, {amount(length)}")
         edge = " edge" if length > whole / 200 else ""
@@ -379,13 +381,13 @@ class Page:
         rows = {row.at: row for row in sheet.rows}
         stripes: list[Stripe] = []
         for it in sheet.stretches:
-            row, place = rows.get(it.at), ""
+            row = rows.get(it.at)
             if row:
-                name, color = row.name, COLORS.get(it.kind, "other")
                 place = self.anchor(row.file) if is_drawn else ""
+                stripes.append((it.at, it.length, COLORS.get(it.kind, "other"), row, place))
             else:
                 name, color = GONE.get(it.what, (it.what, it.what))
-            stripes.append((it.at, it.length, color, name, place))
+                stripes.append((it.at, it.length, color, name, ""))
         self.strip(stripes, sheet.volume.length)
 
     def areas(self, sheet: Sheet) -> None:

@@ -20,7 +20,7 @@ IMAGE = "image"  # `within` of a part that is not in an opened section: its offs
 OUTSIDE = "it is in no volume"  # why bytes are not read if the reader gives no other reason
 # Parts lie in one another, and each has a digest. All digests of an image cover at most this many bytes, and this many
 # times its own length.
-LEAST_DIGESTED, TIMES_DIGESTED = 1 << 31, 16
+LEAST_DIGESTED, TIMES_DIGESTED = 1 << 29, 16
 
 
 class Digests:

@@ -5,24 +5,25 @@ the parts that are not read, and the files that came, went and changed since ano
 from __future__ import annotations
 
 import bisect
+import functools
 import hashlib
 from collections import Counter
-from collections.abc import Hashable, Iterable, Iterator
+from collections.abc import Callable, Hashable, Iterable, Iterator
 from dataclasses import dataclass, field
 from typing import TypeVar
 
-from ._calls import volume_cells, volume_is_canonical, volume_tree, volume_tree_digests
+from ._calls import volume_cells, volume_is_canonical, volume_tree_digests
 from ._errors import Fault, FaultError
-from ._native import NodeKind
+from ._library import Buffer
 from .images import Content, File, Part, Section, Unread, Volume, leaves
-from .names import Names
+from .names import SECURITY_CORE, Names
 from .shown import printable
 
 LONGEST_NAME = 200  # characters of a name that are shown
 LONGEST_WAY = 400  # characters of the names around a part that are shown
 MOST_CELLS = 200_000  # parts of volumes that are drawn in their places
 # Bytes that are digested, each once at each level: at least this many, and this many times the bytes of the image.
-MOST_DIGESTED, TIMES_DIGESTED = 1 << 29, 8
+MOST_DIGESTED, TIMES_DIGESTED = 1 << 28, 16
 
 Item = TypeVar("Item")
 Key = TypeVar("Key", bound=Hashable)
@@ -50,17 +51,22 @@ class Held:
 
 @dataclass
 class Row:
-    """A file of a volume: its name, the offset of its header in the volume, the digest of its data, its contents, and
-    the reasons why sections of it are not opened or may be opened wrongly. The mark shows what happened to the file
-    since another image."""
+    """A file of a volume: the offset of its header in the volume, the digest of its data, its contents, and the reasons
+    why sections of it are not opened or may be opened wrongly. The mark shows what happened to the file since another
+    image."""
 
     file: File
-    name: str
+    names: SheetNames
     at: int
     digest: bytes | None
     held: list[Held]
     notes: list[str]
     mark: str = ""
+
+    @functools.cached_property
+    def name(self) -> str:
+        """Returns the name of the file."""
+        return self.names.file(self.file)
 
     @property
     def part(self) -> File:
@@ -119,16 +125,34 @@ class Sheet:
 
 
 @dataclass
+class Around:
+    """The parts around a part: a function that returns the name of the innermost one, and the parts around that."""
+
+    named: Callable[[], str]
+    outer: Around | None = None
+
+    @functools.cached_property
+    def names(self) -> str:
+        """Returns the names of the parts."""
+        return inside(self.outer.names if self.outer else "", self.named())
+
+
+@dataclass
 class Lack:
-    """A part that is not read, or that may be read wrongly: what it is, the reason, the names of the parts around it,
-    and the nearest file or volume around it. The mark shows whether another image has the part too."""
+    """A part that is not read, or that may be read wrongly: what it is, the reason, the parts around it, and the nearest
+    file or volume around it. The mark shows whether another image has the part too."""
 
     part: Part
     what: str
     reason: str
-    where: str = ""
+    around: Around | None = None
     near: Volume | File | None = None
     mark: str = ""
+
+    @property
+    def where(self) -> str:
+        """Returns the names of the parts around it."""
+        return self.around.names if self.around else ""
 
 
 @dataclass
@@ -221,9 +245,9 @@ class _Maker:
     def _sheet(self, volume: Volume, number: int, digests: dict[int, bytes] | None) -> Sheet:
         """Returns the sheet of a volume."""
         name = self._names.volume(volume, number)
+        data = volume.plain if volume.is_marked else _view_of(volume)
         if volume.fault:
-            return Sheet(volume, name, number, False, self._stretches(volume.body), [])
-        data = volume.plain
+            return Sheet(volume, name, number, False, self._stretches(data), [])
         if digests is None:
             digests = self._digests(volume, data)
         rows = [self._row(volume, file, digests) for file in volume.files]
@@ -234,9 +258,10 @@ class _Maker:
         found = list(leaves(file.sections))
         notes = [f"not opened: {it.type_name}: {it.closed}" for it in found if it.closed]
         notes += [f"{it.type_name}: {doubt}" for it in found if it.opened for doubt in it.opened.doubts]
-        held = [it for it in (self._held(section, digests) for section in found) if it.volumes]
+        held = [self._held(it, digests) for it in found if it.volume or it.opened]
         digest = digests.get(file.offset) if digests else None
-        return Row(file, self._names.file(file), file.offset - file.header_length - volume.offset, digest, held, notes)
+        at = file.offset - file.header_length - volume.offset
+        return Row(file, self._names, at, digest, [it for it in held if it.volumes], notes)
 
     def _held(self, section: Section, digests: dict[int, bytes] | None) -> Held:
         """Returns the contents of a section."""
@@ -245,7 +270,7 @@ class _Maker:
             return Held(section.opened.way.name, section.length, len(section.opened.data), self.sheets(volumes))
         return Held("stored", section.length, section.length, self.sheets(volumes, digests))
 
-    def _stretches(self, volume: bytes) -> list[Stretch]:
+    def _stretches(self, volume: Buffer) -> list[Stretch]:
         """Returns the parts of a volume, the header first. There are none if libfv rejects the cells, or if they are
         too many."""
         try:
@@ -257,25 +282,48 @@ class _Maker:
             return []
         self._cells_left -= len(cells)
         found = [Stretch(it.kind.name.lower(), it.offset, it.length, it.efi_type or 0) for it in cells]
-        return [Stretch("header", 0, found[0].at if found else len(volume)), *found]
+        return [Stretch("header", 0, found[0].at if found else len(memoryview(volume))), *found]
 
-    def _digests(self, volume: Volume, data: bytes) -> dict[int, bytes] | None:
+    def _digests(self, volume: Volume, data: Buffer) -> dict[int, bytes] | None:
         """Returns the digests of the files in a volume, at every level, by the offsets of their data. There are none if
-        the files cannot be laid out in the volume, or if too many bytes would be digested."""
+        too many bytes would be digested. Returns None if the files cannot be laid out in the volume."""
+        parts = list(_stored(volume))
+        cost = sum(it.length for it in parts)
+        if cost > self._bytes_left:
+            return {}
+        self._bytes_left -= cost
         try:
-            nodes = volume_tree(data)
-            cost = sum(it.length for it in nodes)
-            if cost > self._bytes_left:
-                return None
-            found = volume_tree_digests(data)
+            found = zip(parts, volume_tree_digests(data), strict=True)
         except FaultError:
             return None
-        self._bytes_left -= cost
-        files = (it for it in zip(nodes, found) if it[0].kind == NodeKind.FILE)
-        return {volume.offset + node.offset: digest for node, digest in files if digest is not None}
+        return {it.offset: digest for it, digest in found if digest is not None and isinstance(it, File)}
 
 
-def _is_canonical(volume: bytes) -> bool:
+def _view_of(part: Part) -> memoryview:
+    """Returns the bytes of a part without copying them."""
+    return memoryview(part.data)[part.offset : part.offset + part.length]
+
+
+def _stored(volume: Volume) -> Iterator[Part]:
+    """Yields the parts of a volume in the order of the rows of its tree. So the contents of opened sections, and the
+    sections of a security core, are not among them."""
+    yield volume
+    for file in volume.files:
+        yield file
+        if file.kind != SECURITY_CORE:
+            yield from _stored_in(file.sections)
+
+
+def _stored_in(sections: Iterable[Section]) -> Iterator[Part]:
+    """Yields sections, and the parts in each of them after it."""
+    for section in sections:
+        yield section
+        yield from _stored_in(section.sections)
+        if section.volume:
+            yield from _stored(section.volume)
+
+
+def _is_canonical(volume: Buffer) -> bool:
     """Returns whether an accepted volume is its own canonical image. It is not if its files do not fit."""
     try:
         return volume_is_canonical(volume)
@@ -302,51 +350,56 @@ class _Lacks:
 
     def image(self, image: Content) -> Iterator[Lack]:
         """Yields the parts of an image that are not read."""
-        yield from _unread(image.unread, "", None)
+        yield from _unread(image.unread, None, None)
         for number, volume in enumerate(image.volumes):
-            yield from self._volume(volume, number, "")
+            yield from self._volume(volume, number, None)
 
-    def _volume(self, volume: Volume, number: int, where: str) -> Iterator[Lack]:
+    def _in_file(self, file: File, around: Around | None) -> Around:
+        """Returns the parts around a part of a file."""
+        return Around(functools.partial(self._names.file, file), around)
+
+    def _volume(self, volume: Volume, number: int, around: Around | None) -> Iterator[Lack]:
         """Yields the parts of a volume that are not read."""
         if volume.fault:
-            yield Lack(volume, "rejected volume", meaning_of(volume.fault), where, volume)
-        here = inside(where, self._names.volume(volume, number))
+            yield Lack(volume, "rejected volume", meaning_of(volume.fault), around, volume)
+        here = Around(functools.partial(self._names.volume, volume, number), around)
         starts = [it.offset for it in volume.files]
         for lack in _unread(volume.unread, here, volume):
             index = bisect.bisect(starts, lack.part.offset) - 1
             file = volume.files[index] if index >= 0 else None
             if file and lack.part.offset < file.offset + file.length:
-                lack.where, lack.near = inside(here, self._names.file(file)), file
+                lack.around, lack.near = self._in_file(file, here), file
             yield lack
         for file in volume.files:
             if file.sections:
-                yield from self._file(file, inside(here, self._names.file(file)))
+                yield from self._file(file, self._in_file(file, here))
 
-    def _file(self, file: File, where: str) -> Iterator[Lack]:
+    def _file(self, file: File, around: Around) -> Iterator[Lack]:
         """Yields the parts of a file that are not read."""
-        yield from self._sections(file.sections, where, file)
+        yield from self._sections(file.sections, around, file)
         for section in leaves(file.sections):
             for number, volume in enumerate(_volumes_of(section)):
-                yield from self._volume(volume, number, where)
+                yield from self._volume(volume, number, around)
 
-    def _sections(self, sections: Iterable[Section], where: str, near: File) -> Iterator[Lack]:
+    def _sections(self, sections: Iterable[Section], around: Around, near: File) -> Iterator[Lack]:
         """Yields the parts of sections that are not read. Volumes in the sections are not looked at."""
         for section in sections:
             if section.closed:
-                yield Lack(section, section.type_name, f"not opened: {section.closed}", where, near)
-            if section.opened:
-                if section.opened.doubts:
-                    yield Lack(section, section.type_name, "; ".join(section.opened.doubts), where, near)
-                here = inside(where, section.opened.way.name)
-                yield from _unread(section.opened.unread, here, near)
-                yield from self._sections(section.opened.sections, here, near)
-            yield from self._sections(section.sections, where, near)
+                yield Lack(section, section.type_name, f"not opened: {section.closed}", around, near)
+            opened = section.opened
+            if opened:
+                if opened.doubts:
+                    yield Lack(section, section.type_name, "; ".join(opened.doubts), around, near)
+                here = Around(functools.partial(str, opened.way.name), around)
+                yield from _unread(opened.unread, here, near)
+                yield from self._sections(opened.sections, here, near)
+            yield from self._sections(section.sections, around, near)
 
 
-def _unread(found: Iterable[Unread], where: str, near: Volume | File | None) -> Iterator[Lack]:
+def _unread(found: Iterable[Unread], around: Around | None, near: Volume | File | None) -> Iterator[Lack]:
     """Yields bytes that are not read."""
     for it in found:
-        yield Lack(it, it.what or "bytes", it.reason, where, near)
+        yield Lack(it, it.what or "bytes", it.reason, around, near)
 
 
 def _apart(lacks: Iterable[Lack]) -> Iterator[tuple[Lack, int]]:

@@ -67,12 +67,13 @@ class Cell:
 class Node:
     """A row of a tree: a volume, a file or a section. A field that the part does not have is None.
 
-    `offset` and `length` give the place in the data of the volume, the file's data or the section's body. `parent`
-    is the number of the row that holds this one (None for the first), `index` its place among the parts that its
-    parent holds, and `depth` the number of rows around it. `kind` is the kind of the row, and `content` the kind of its
-    contents. `efi_type` is Type of a file or a section. `attributes` is Attributes of a volume, or of a file without
-    bit 0x01 (a file with that bit has a `header_length` of 32). `header_length` is the length of the header. `guid` is
-    Name of a file, or FvName of a volume that has a name. `file_system` is 2 or 3, for a volume."""
+    `offset` and `length` give the place in the data of the volume, the file's data or the section's body. `parent` is
+    the number of the row that holds this one (None for the first), `index` its place among the parts that its parent
+    holds, and `depth` the number of rows around it. `kind` is the kind of the row, and `content` the kind of its
+    contents. `efi_type` is Type of a file (FileType or another) or a section (SectionType or another). `attributes` is
+    Attributes of a volume, or of a file without bit 0x01 (a file with that bit has a `header_length` of 32).
+    `header_length` is the length of the header. `guid` is Name of a file, or FvName of a volume that has a name.
+    `file_system` is 2 or 3, for a volume."""
 
     offset: int
     length: int

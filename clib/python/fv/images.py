@@ -373,8 +373,8 @@ class Reader:
         return sections, start
 
     def _volumes(self, data: bytes, start: int) -> list[Volume]:
-        """Returns the volumes in some data, from an offset on. A volume may begin at any byte that is in no volume before
-        it, and may have fixed files."""
+        """Returns the volumes in some data, from an offset on. A volume may begin at any byte that is in no volume
+        before it, and may have fixed files."""
         found: list[Volume] = []
         at = start
         while (begin := self._next_header(data, at, len(data))) is not None:
@@ -386,15 +386,15 @@ class Reader:
         return found
 
     def _next_header(self, data: bytes, start: int, end: int) -> int | None:
-        """Returns the first place at which the header of a volume may begin: the signature, and lengths that may be
-        right. The volume may be longer than the data."""
-        at = start + SIGNATURE_AT - BEFORE_SIGNATURE
-        while (found := data.find(SIGNATURE, at, end)) >= 0:
+        """Returns the first place between two offsets at which the header of a volume may begin: the signature, and
+        lengths that may be right. The volume may be longer than the data."""
+        at, after = start + SIGNATURE_AT - BEFORE_SIGNATURE, end + SIGNATURE_AT + len(SIGNATURE) - BEFORE_SIGNATURE - 1
+        while (found := data.find(SIGNATURE, at, after)) >= 0:
             self._budget.look()
             begin, at = found + BEFORE_SIGNATURE - SIGNATURE_AT, found + 1
             length = _number(data, begin + LENGTH_AT, 8)
             header = _number(data, begin + HEADER_LENGTH_AT, 2)
-            if SHORTEST_HEADER <= header <= length and begin + SHORTEST_HEADER <= end:
+            if SHORTEST_HEADER <= header <= length and begin + SHORTEST_HEADER <= len(data):
                 return begin
         return None
 
@@ -410,7 +410,8 @@ class Reader:
     def _with_unread(self, content: Found) -> Found:
         """Adds the gaps that are not erased, and the headers of volumes that are not read."""
         gaps = [_gap(it) for it in content.others if not is_erased(it.data, it.offset, it.offset + it.length)]
-        places = [*_places_read_apart(content.sections), *((it.offset, it.offset + it.length) for it in content.volumes)]
+        volumes = ((it.offset, it.offset + it.length) for it in content.volumes)
+        places = [*_places_read_apart(content.sections), *volumes]
         headers = self._headers_between(content.data, 0, places, len(content.data))
         content.unread = sorted([*gaps, *headers], key=lambda it: it.offset)
         return content
@@ -424,16 +425,16 @@ class Reader:
     def _headers(self, data: bytes, start: int, end: int, otherwise: str) -> Iterator[Unread]:
         """Yields the places at which the header of a volume may begin, with its fault, or with another reason why the
         volume is not read."""
-        at = start
-        while (begin := self._next_header(data, at, end)) is not None:
-            at = begin + 1
+        begin = self._next_header(data, start, end)
+        while begin is not None:
             self._budget.count(1)
+            after = self._next_header(data, begin + 1, end)  # the parts do not overlap, so their lengths add up to less
             fault = self._header_fault(data, begin, end)
             reason = f"{fault}: {fault.text}" if fault else otherwise
-            length = _number(data, begin + LENGTH_AT, 8)
+            length = min(_number(data, begin + LENGTH_AT, 8), (end if after is None else after) - begin)
             guid = uuid.UUID(bytes_le=data[begin + SYSTEM_AT : begin + LENGTH_AT])
-            what = _what_volume(guid, data[begin + REVISION_AT])
-            yield Unread(data, begin, min(length, end - begin), what, reason, guid)
+            yield Unread(data, begin, length, _what_volume(guid, data[begin + REVISION_AT]), reason, guid)
+            begin = after
 
     def _volume(self, data: bytes, offset: int, length: int) -> Volume:
         """Returns the volume at these bytes, with all parts inside it."""
@@ -540,8 +541,8 @@ def _tree_of(volume: memoryview) -> tuple[Sequence[Node], bool]:
 
 
 def _unmarked(volume: bytes | memoryview) -> bytes:
-    """Returns a volume without the marks of fixed files, also of those in its nested volumes. libfv removes the marks of
-    one volume. The bytes of a file header keep their sum, so the checksums of the files around it stay right."""
+    """Returns a volume without the marks of fixed files, also of those in its nested volumes. libfv removes the marks
+    of one volume. The bytes of a file header keep their sum, so the checksums of the files around it stay right."""
     whole = bytearray(volume_unfix(volume))
     places = [(0, len(whole))]
     for start, end in places:

@@ -6,7 +6,7 @@ use std::path::{Path, PathBuf};
 use std::process::{exit, Command};
 
 /// The versions of libfv that have these declarations, for pkg-config.
-const VERSIONS: [&str; 2] = ["libfv >= 2.0", "libfv < 3"];
+const VERSIONS: [&str; 2] = ["libfv >= 2.1", "libfv < 3"];
 
 /// Reports why the crate cannot be linked, and ends the build.
 fn fail(why: &str) -> ! {

@@ -7,9 +7,9 @@ ghost use Rattle.std.specs.Vec.Iter.{into_iter_items};
 ghost use Rattle.std.specs.declared.io.ErrorKind.{ErrorKind};
 
 use crate::advice::Advice;
+use crate::marks::Marks;
 use crate::output::Output;
 use fv_command::Opener;
-use std::cell::Cell;
 use std::env::{Args, FillError};
 use std::fs::OpenFile;
 use std::io::{IsTerminal, Stderr, Stdin, Write};
@@ -47,12 +47,20 @@ pub trait Process {
     fn standard_output(&self) -> Self::Writer
         ensures { is_output self.now result };
 
-    /// Returns whether standard error is a terminal, so that a person sees the messages.
+    /// Returns whether standard error is a terminal, so that a person sees the messages at once.
     fn is_at_terminal(&self) -> bool;
 
-    /// Shows the message to the person at the terminal, if there is one. The message is not part of
-    /// the result of the run: if it cannot be shown, nothing changes.
+    /// Writes the message to standard error. The message is not part of the result of the run: if it
+    /// cannot be written, nothing changes.
     fn advise(&self, advice: Advice<'_>);
+
+    /// Returns whether a message has named the file that was opened first, because it cannot be
+    /// read. Only messages depend on it.
+    fn has_named_first(&self) -> bool;
+
+    /// Returns whether a message has named any file that cannot be read. Only messages depend on
+    /// it.
+    fn has_named_file(&self) -> bool;
 
     /// Returns whether standard output was asked to write any bytes. Only messages depend on it.
     fn has_written(&self) -> bool;
@@ -91,47 +99,41 @@ impl<R: Env> Env for Unnamed<'_, R> {
 #[derive(Drop)]
 pub struct Host<'r, R> {
     rt: &'r R,
-    wrote: &'r Cell<bool>,
+    marks: &'r Marks,
     input: Stdin,
     errors: Stderr,
 }
 
 impl<'r, R> Host<'r, R> {
-    /// Returns the process of this runtime, with its standard input and standard error, and a cell
-    /// for the mark of its standard output.
-    pub fn new(rt: &'r R, wrote: &'r Cell<bool>, input: Stdin, errors: Stderr) -> Host<'r, R> {
+    /// Returns the process of this runtime, with its standard input and standard error, and the
+    /// marks for its messages.
+    pub fn new(rt: &'r R, marks: &'r Marks, input: Stdin, errors: Stderr) -> Host<'r, R> {
         Host {
             rt,
-            wrote,
+            marks,
             input,
             errors,
         }
     }
 
-    // Writes the message to standard error, if that is a terminal. If the message cannot be
-    // written, nothing changes.
-    fn write_to_terminal(&self, advice: Advice<'_>) {
-        if self.errors.is_terminal() {
-            let _ = self.errors.eprintln(advice);
-        }
+    // Writes the message to standard error. If it cannot be written, nothing changes.
+    fn write_message(&self, advice: Advice<'_>) {
+        let _ = self.errors.eprintln(advice);
     }
 }
 
 impl<'r, R: Files> Host<'r, R> {
-    // Explains that a file cannot be opened, or that the path names a folder, which can be opened
-    // but not read.
-    fn explain_file(&self, path: &str, file: &Option<R::File>) {
-        if path == DESCRIPTOR_FILLER {
-            return;
+    // Names a file that cannot be opened, or a folder, which can be opened but not read. Returns
+    // whether a message was written.
+    fn explain_file(&self, path: &str, file: &io::Result<R::File>) -> bool {
+        match file {
+            Ok(file) => match file.metadata() {
+                Ok(found) if found.is_dir() => self.write_message(Advice::IsFolder(path)),
+                _ => return false,
+            },
+            Err(error) => self.write_message(Advice::NotOpened(path, error.kind())),
         }
-        let Some(file) = file else {
-            self.write_to_terminal(Advice::NotOpened(path));
-            return;
-        };
-        match file.metadata() {
-            Ok(found) if found.is_dir() => self.write_to_terminal(Advice::IsFolder(path)),
-            _ => {}
-        }
+        true
     }
 }
 
@@ -147,14 +149,16 @@ impl<'r, R: Files + Input> Opener for Host<'r, R> {
     ghost is_standard = { λ _ _. ⊤ };
 
     fn file_at(&self, path: &str) -> Option<R::File> {
-        let file = fs::open(self.rt, path).ok();
-        self.explain_file(path, &file);
-        file
+        let file = fs::open(self.rt, path);
+        if path != DESCRIPTOR_FILLER {
+            self.marks.note_file(self.explain_file(path, &file));
+        }
+        file.ok()
     }
 
     fn standard_input(&self) -> R::Reader {
-        if self.input.is_terminal() {
-            self.write_to_terminal(Advice::ReadsStandardInput);
+        if self.input.is_terminal() && self.errors.is_terminal() {
+            self.write_message(Advice::ReadsStandardInput);
         }
         self.rt.reader()
     }
@@ -184,7 +188,7 @@ impl<'r, R: Env + Print + AllocGlobal> Process for Host<'r, R> {
     }
 
     fn standard_output(&self) -> Output<'r, R> {
-        Output::new(io::writer(self.rt), self.wrote)
+        Output::new(io::writer(self.rt), self.marks)
     }
 
     fn is_at_terminal(&self) -> bool {
@@ -192,11 +196,19 @@ impl<'r, R: Env + Print + AllocGlobal> Process for Host<'r, R> {
     }
 
     fn advise(&self, advice: Advice<'_>) {
-        self.write_to_terminal(advice);
+        self.write_message(advice);
+    }
+
+    fn has_named_first(&self) -> bool {
+        self.marks.has_named_first()
+    }
+
+    fn has_named_file(&self) -> bool {
+        self.marks.has_named_file()
     }
 
     fn has_written(&self) -> bool {
-        self.wrote.get()
+        self.marks.has_written()
     }
 
     fn not_text(&self) -> Option<usize> {

@@ -17,16 +17,18 @@ ghost use Rattle.std.specs.Vec.Iter.{into_iter_items};
 
 mod advice;
 mod advising;
+mod cause;
 mod host;
+mod marks;
 mod output;
 
 use crate::advising::advise;
 use crate::host::{DESCRIPTOR_FILLER, Host, Process};
+use crate::marks::Marks;
 use fv_arguments::{WordFault, parse_words};
 use fv_base::{Fault, FaultKind, Port};
 use fv_command::{Ending, Opener, Refusal, Status, end_with_line, end_with_refusal, run_over};
 use std::alloc::Global;
-use std::cell::Cell;
 use std::env::Args;
 use std::io::Write;
 use std::process::ExitCode;
@@ -142,7 +144,7 @@ fn exit_with(status: Status) -> ExitCode
     ExitCode::from(status.code())
 }
 
-// Runs the plan that the arguments of a process ask for, and explains at a terminal how the run
+// Runs the plan that the arguments of a process ask for, and explains on standard error how the run
 // ended. Returns the exit code for the status with which the run ended, and the output. The last
 // call to the output was a flush, unless the status is Refused and a call to the output has failed.
 // The clause holds for any process: whatever its arguments are, whatever opens its files, and
@@ -168,7 +170,7 @@ fn process<P: Opener + Process>(alloc: Global, process: &P) -> (ExitCode, Port<P
 fn main(rt: HostRuntime) -> ExitCode {
     process(
         rt.alloc(),
-        &Host::new(&rt, &Cell::new(false), rt.stdin(), rt.stderr()),
+        &Host::new(&rt, &Marks::new(), rt.stdin(), rt.stderr()),
     )
     .0
 }

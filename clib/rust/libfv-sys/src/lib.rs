@@ -11,7 +11,7 @@ use std::mem::{align_of, size_of, transmute};
 use std::os::raw::{c_char, c_void};
 
 /// The result of a call: one of `FV_OK`, `FV_FAULT_*`, `FV_OUT_OF_MEMORY`, `FV_BUFFER_TOO_SMALL`,
-/// `FV_NOT_FOUND` and `FV_BAD_ARGUMENT`, or one that a later version adds.
+/// `FV_NOT_FOUND`, `FV_BAD_ARGUMENT` and `FV_BAD_GUID`, or one that a later version adds.
 pub type fv_result = u32;
 
 pub const FV_VERSION: &str = "2.1.0-dev";
@@ -24,13 +24,15 @@ pub const FV_VERSION_NUMBER: u32 = 0x020100;
 pub const FV_LENGTH_MAX: u32 = 268435456;
 /// The most bytes of the text of `fv_volume_compare`, its NUL included.
 pub const FV_DIFFERENCE_SIZE: u32 = 553;
+/// The bytes of the text of `fv_guid_text`, its NUL included.
+pub const FV_GUID_TEXT_SIZE: u32 = 37;
 /// The parent of the first row of a tree.
 pub const FV_NO_PARENT: u64 = u64::MAX;
 
 // The result of a call. The bits from 8 on show what the result is about: 0 a volume or an image,
 // 1 the call, 2 a dependency expression, 3 a hand-off list. For 0, 2 and 3 the low byte is the
-// number of the fault in docs/FAULTS.md; but out of memory is 24 in every call. `fv_result_text`
-// has a sentence for each result.
+// number of the fault in FAULTS.md; but out of memory is 24 in every call. `fv_result_text` has a
+// sentence for each result.
 pub const FV_OK: fv_result = 0;
 pub const FV_FAULT_TRUNCATED: fv_result = 1;
 pub const FV_FAULT_SIGNATURE: fv_result = 2;
@@ -59,6 +61,7 @@ pub const FV_OUT_OF_MEMORY: fv_result = 24;
 pub const FV_BUFFER_TOO_SMALL: fv_result = 0x100;
 pub const FV_NOT_FOUND: fv_result = 0x101;
 pub const FV_BAD_ARGUMENT: fv_result = 0x102;
+pub const FV_BAD_GUID: fv_result = 0x103;
 pub const FV_FAULT_DEPEX_SHORT: fv_result = 0x201;
 pub const FV_FAULT_DEPEX_OPCODE: fv_result = 0x202;
 pub const FV_FAULT_DEPEX_STACK: fv_result = 0x203;
@@ -93,6 +96,43 @@ pub const FV_CONTENT_FILES: u32 = 0;
 pub const FV_CONTENT_BYTES: u32 = 1;
 pub const FV_CONTENT_SECTIONS: u32 = 2;
 pub const FV_CONTENT_VOLUME: u32 = 3;
+
+// The types of files, with the names of the specification after EFI_FV_FILETYPE_. A file may have
+// any other type too: 0xC0 to 0xDF are for vendors, and 0xE0 to 0xEF for debugging.
+pub const FV_FILE_RAW: u32 = 0x01;
+pub const FV_FILE_FREEFORM: u32 = 0x02;
+pub const FV_FILE_SECURITY_CORE: u32 = 0x03;
+pub const FV_FILE_PEI_CORE: u32 = 0x04;
+pub const FV_FILE_DXE_CORE: u32 = 0x05;
+pub const FV_FILE_PEIM: u32 = 0x06;
+pub const FV_FILE_DRIVER: u32 = 0x07;
+pub const FV_FILE_COMBINED_PEIM_DRIVER: u32 = 0x08;
+pub const FV_FILE_APPLICATION: u32 = 0x09;
+pub const FV_FILE_MM: u32 = 0x0A;
+pub const FV_FILE_FIRMWARE_VOLUME_IMAGE: u32 = 0x0B;
+pub const FV_FILE_COMBINED_MM_DXE: u32 = 0x0C;
+pub const FV_FILE_MM_CORE: u32 = 0x0D;
+pub const FV_FILE_MM_STANDALONE: u32 = 0x0E;
+pub const FV_FILE_MM_CORE_STANDALONE: u32 = 0x0F;
+pub const FV_FILE_FFS_PAD: u32 = 0xF0;
+
+// The types of sections, with the names of the specification after EFI_SECTION_. A section may
+// have any other type too.
+pub const FV_SECTION_COMPRESSION: u32 = 0x01;
+pub const FV_SECTION_GUID_DEFINED: u32 = 0x02;
+pub const FV_SECTION_DISPOSABLE: u32 = 0x03;
+pub const FV_SECTION_PE32: u32 = 0x10;
+pub const FV_SECTION_PIC: u32 = 0x11;
+pub const FV_SECTION_TE: u32 = 0x12;
+pub const FV_SECTION_DXE_DEPEX: u32 = 0x13;
+pub const FV_SECTION_VERSION: u32 = 0x14;
+pub const FV_SECTION_USER_INTERFACE: u32 = 0x15;
+pub const FV_SECTION_COMPATIBILITY16: u32 = 0x16;
+pub const FV_SECTION_FIRMWARE_VOLUME_IMAGE: u32 = 0x17;
+pub const FV_SECTION_FREEFORM_SUBTYPE_GUID: u32 = 0x18;
+pub const FV_SECTION_RAW: u32 = 0x19;
+pub const FV_SECTION_PEI_DEPEX: u32 = 0x1B;
+pub const FV_SECTION_MM_DEPEX: u32 = 0x1C;
 
 // The phase in which a dependency expression is evaluated. `FV_PHASE_DXE` is for DXE and for MM.
 pub const FV_PHASE_PEI: u32 = 0;
@@ -200,7 +240,7 @@ pub struct fv_cell {
     pub kind: u32,
     /// Of a valid file or a pad, 24 or 32: its data begin at offset + header_length.
     pub header_length: u32,
-    /// Type of a valid file or a pad.
+    /// Type of a valid file or a pad: `FV_FILE_*` or another.
     pub efi_type: u32,
     /// Attributes of a valid file or a pad, as stored: with 0x01 if its header is large.
     pub attributes: u32,
@@ -228,7 +268,7 @@ pub struct fv_node {
     pub kind: u32,
     /// `FV_CONTENT_*`.
     pub content: u32,
-    /// Type of a file or a section.
+    /// Type of a file (`FV_FILE_*` or another) or of a section (`FV_SECTION_*` or another).
     pub efi_type: u32,
     /// Attributes of a volume; of a file, without bit 0x01 (it is set if header_length is 32).
     pub attributes: u32,
@@ -494,7 +534,10 @@ extern "C" {
     /// input. Returns `FV_OK`, or `FV_BUFFER_TOO_SMALL` if buffer_size < `*length`. Returns
     /// `FV_NOT_FOUND` if the tree has no row with this number. Otherwise returns the first fault, 1
     /// to 21; or 22 or 23, if the part is a volume, or holds one, that does not fit in its
-    /// canonical form; or 24. Leaves `*length` unchanged after a fault and after `FV_NOT_FOUND`.
+    /// canonical form; or 24. For 22 and 23, `fault->depth` counts only the groups and opened
+    /// volumes within the part: it is 0 for the volume that is the part itself, and for the volume
+    /// that is the whole body of the section. Leaves `*length` unchanged after a fault and after
+    /// `FV_NOT_FOUND`.
     pub fn fv_volume_extract(
         volume: *const c_void,
         size: usize,
@@ -534,4 +577,16 @@ extern "C" {
         list_length: *mut usize,
         fault: *mut fv_fault,
     ) -> fv_result;
+
+    /// Writes a GUID as text to the start of `text`: 36 characters in lower case, as in
+    /// 8c8ce578-8a3d-4f1c-9935-896185c32dd3, and a NUL. Returns `FV_OK`, or `FV_BUFFER_TOO_SMALL`
+    /// if text_size < `FV_GUID_TEXT_SIZE`.
+    pub fn fv_guid_text(guid: *const fv_guid, text: *mut c_char, text_size: usize) -> fv_result;
+
+    /// Reads a GUID from a text such as 8c8ce578-8a3d-4f1c-9935-896185c32dd3, with digits of either
+    /// case. The text ends before its first NUL, or after text_size bytes, so text_size may be its
+    /// length or the size of its buffer. No byte after a NUL is read. Returns `FV_OK`. Returns
+    /// `FV_BAD_GUID` if the text has another form, also with braces or spaces, and leaves `*guid`
+    /// unchanged.
+    pub fn fv_guid_parse(text: *const c_char, text_size: usize, guid: *mut fv_guid) -> fv_result;
 }

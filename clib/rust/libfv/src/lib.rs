@@ -73,6 +73,7 @@ mod call;
 mod error;
 mod guid;
 mod row;
+mod types;
 
 pub mod depex;
 pub mod header;
@@ -82,6 +83,7 @@ pub mod volume;
 
 pub use error::{Error, Fault, FaultKind};
 pub use guid::{Guid, ParseGuidError};
+pub use types::{file_type, section_type};
 
 use std::ffi::CStr;
 

@@ -72,7 +72,10 @@ impl Cell {
         self.has_header().then_some(self.0.header_length as usize)
     }
 
-    /// Returns `Type` of a valid file or a pad, and `None` for other cells.
+    /// Returns `Type` of a valid file or a pad, and `None` for other cells. [`file_type`] has names
+    /// for it.
+    ///
+    /// [`file_type`]: crate::file_type
     pub fn efi_type(&self) -> Option<u8> {
         self.has_header().then(|| narrow(self.0.efi_type, "Type"))
     }
@@ -180,7 +183,11 @@ impl Node {
         }
     }
 
-    /// Returns `Type` of a file or a section, and `None` for a volume.
+    /// Returns `Type` of a file or a section, and `None` for a volume. [`file_type`] and
+    /// [`section_type`] have names for it.
+    ///
+    /// [`file_type`]: crate::file_type
+    /// [`section_type`]: crate::section_type
     pub fn efi_type(&self) -> Option<u8> {
         (self.kind() != NodeKind::Volume).then(|| narrow(self.0.efi_type, "Type"))
     }
