@@ -43,22 +43,35 @@ class Tree:
 
     def write(self, path: str, data: memoryview) -> None:
         """Writes a new file, and makes the folders above it that are not there."""
-        with self.file(path) as file:
-            self.put(file, data)
+        self._take(len(data))
+        file = self._new(path)
+        try:
+            while data:
+                data = data[os.write(file, data) :]
+        finally:
+            os.close(file)
 
     @contextlib.contextmanager
     def file(self, path: str) -> Iterator[IO[bytes]]:
         """Gives the block a new file, for `put`."""
-        folder, _, name = path.rpartition("/")
-        with os.fdopen(os.open(name, NEW, 0o666, dir_fd=self._enter(folder)), "wb") as file:
+        with os.fdopen(self._new(path), "wb") as file:
             yield file
 
     def put(self, file: IO[bytes], data: bytes | memoryview) -> None:
         """Writes bytes to a file of the folder."""
-        self._left -= len(data)
+        self._take(len(data))
+        file.write(data)
+
+    def _take(self, count: int) -> None:
+        """Takes this many bytes of those that may be written."""
+        self._left -= count
         if self._left < 0:
             raise Full(f"{self._most} bytes")
-        file.write(data)
+
+    def _new(self, path: str) -> int:
+        """Returns a descriptor for a new file."""
+        folder, _, name = path.rpartition("/")
+        return os.open(name, NEW, 0o666, dir_fd=self._enter(folder))
 
     def _enter(self, path: str) -> int:
         """Returns a descriptor for a folder. Makes the folders on the way that are not there."""

@@ -43,7 +43,7 @@ from ._calls import image_check, volume_is_canonical
 from ._errors import Fault, FaultError
 from ._native import LENGTH_MAX, FaultCode
 from ._types import VolumeCheck
-from .images import _unmarked
+from .images import unmarked
 from .limits import Full, Limits
 
 NAME = "fv-check"
@@ -132,7 +132,7 @@ def _without_marks(volume: memoryview) -> tuple[Fault | None, bool]:
     """Checks a volume without the marks of fixed files, also of those in nested volumes: returns its fault, and whether
     it is canonical."""
     try:
-        return None, volume_is_canonical(_unmarked(volume))
+        return None, volume_is_canonical(unmarked(volume))
     except FaultError as error:
         return error.fault, False
 

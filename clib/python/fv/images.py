@@ -98,7 +98,7 @@ class Volume(Part):
     @property
     def plain(self) -> bytes:
         """Returns the bytes of the volume without the marks of fixed files. libfv reads these bytes."""
-        return _unmarked(self.body) if self.is_marked else self.body
+        return unmarked(self.body) if self.is_marked else self.body
 
     @property
     def fixed(self) -> list[File]:
@@ -543,10 +543,10 @@ def _tree_of(volume: memoryview) -> tuple[Sequence[Node], bool]:
     except FaultError as error:
         if error.fault.code != FaultCode.FIXED:
             raise
-    return volume_tree(_unmarked(volume)), True
+    return volume_tree(unmarked(volume)), True
 
 
-def _unmarked(volume: bytes | memoryview) -> bytes:
+def unmarked(volume: bytes | memoryview) -> bytes:
     """Returns a volume without the marks of fixed files, also of those in its nested volumes. libfv removes the marks
     of one volume. The bytes of a file header keep their sum, so the checksums of the files around it stay right."""
     whole = bytearray(volume_unfix(volume))
