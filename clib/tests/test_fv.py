@@ -20,6 +20,7 @@ import sys
 import tempfile
 import threading
 import time
+import types
 import uuid
 from array import array
 from collections.abc import Callable, Sequence
@@ -490,6 +491,8 @@ def buffers_may_change(seconds: int) -> int:
 
 def expressions_have_values() -> None:
     """Checks expressions that are true, false or neither."""
+    short = types.SimpleNamespace(bytes_le=A.bytes_le[:5])
+    assert str(raised(fv.depex_evaluate, BOTH, fv.Phase.PEI, [A, short])) == "a GUID has 16 bytes"
     assert fv.depex_evaluate(BOTH, fv.Phase.PEI, [A, B]) is True and fv.depex_evaluate(BOTH, fv.Phase.PEI, {B}) is False
     assert fv.depex_evaluate(BOTH, installed=iter((B, A))) is True and fv.depex_evaluate(BOTH) is False
     assert fv.depex_evaluate(b"\0" + A.bytes_le + b"\10") is None

@@ -19,6 +19,7 @@ from ._types import Cells, Checks, Digests, Headers, Hobs, Nodes, Rows
 # The first buffer for rows has room for a row for each 8 bytes of the input (a section with a body takes at least 8
 # bytes), but for at most 65,536 rows. Memory that a call does not write to costs little.
 BYTES_OF_ROW, MOST_ROOM = 8, 65_536
+GUID_SIZE = 16
 # A view of fewer bytes is copied, because this takes less time than to get its address.
 LEAST_HELD = 4096
 # A call writes its results to new bytes objects, which take less time to make than objects of ctypes. These are the
@@ -192,10 +193,13 @@ def depex_evaluate(
 ) -> bool | None:
     """Returns the truth value of a dependency expression in a phase if the protocols (or PPIs) with these GUIDs are
     installed. Returns None for BEFORE and AFTER, which have no truth value."""
-    guids = b"".join(it.bytes_le for it in installed)
+    names = [it.bytes_le for it in installed]
+    if any(len(it) != GUID_SIZE for it in names):
+        raise ValueError(f"a GUID has {GUID_SIZE} bytes")
+    guids = b"".join(names)
     value, fault = bytes(_U32.size), bytes(FAULT_SIZE)
     number = (phase if type(phase) is Phase else Phase(operator.index(phase))).value
-    if result := _over(expression, copy, lib.fv_depex_evaluate, number, guids, len(guids) // 16, value, fault):
+    if result := _over(expression, copy, lib.fv_depex_evaluate, number, guids, len(names), value, fault):
         raise error_of(result, fault)
     return _TRUTHS[value]
 

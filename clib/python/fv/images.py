@@ -26,7 +26,7 @@ from ._library import Buffer
 from ._native import CellKind, FaultCode, NodeKind
 from ._types import Cell, Node
 from .limits import Budget, Full, Limits
-from .opened import OUT_OF_MEMORY, PACKED, Closed, Way, frames, is_erased, open_section
+from .opened import OUT_OF_MEMORY, PACKED, Closed, Way, are_sections, frames, is_erased, open_section
 
 # In the header of a volume: GUID of the file system, FvLength (its upper half is 0), the signature, HeaderLength.
 SYSTEM_AT, LENGTH_AT, SIGNATURE_AT, HEADER_LENGTH_AT, EXTENDED_OFFSET_AT, REVISION_AT = 16, 32, 40, 48, 52, 55
@@ -34,6 +34,7 @@ SIGNATURE, BEFORE_SIGNATURE = b"\0\0\0\0_FVH", 4  # with the upper half of FvLen
 SHORTEST_HEADER, REVISION = 56, 2  # bytes of the header of a volume, and its revision
 EXTENDED_LENGTH_AT = 16  # in the extended header
 FILE_TYPE_AT, PAD_HEADER = 18, 24  # in the header of a file, and the bytes of the header of a pad file
+ENOUGH_SECTIONS = 1000  # with which bytes begin that are taken for sections
 VOLUME_PARTS = 4  # parts that a volume counts for, because its header and its cells are read too
 HEAD = 64  # bytes that show what lies outside of volumes
 FIXED, ATTRIBUTES_AT = 0x04, 19  # the attribute of a file that may not be moved; where a file header has the attributes
@@ -495,8 +496,14 @@ def _what_volume(system: uuid.UUID, revision: int) -> str:
 
 
 def _remains(volume: Volume, cells: Sequence[Cell]) -> Iterator[Unread]:
-    """Yields the pads and fillers of a volume that hold bytes, and its files that are not valid."""
+    """Yields the pads and fillers of a volume that hold bytes, its files that are not valid, and the data of its files
+    that are sections, although the types of the files say nothing of sections. (The data of a security core are read
+    as sections later, if they are.)"""
     data, start = volume.data, volume.offset
+    for file in (it for it in volume.files if not it.sections and it.kind != names.SECURITY_CORE):
+        if are_sections(data, file.offset, file.offset + file.length, ENOUGH_SECTIONS):
+            reason = f"sections in a file of the type {file.type_name}"
+            yield Unread(data, file.offset, file.length, "sections", reason, file.guid)
     valid = {it.offset - it.header_length - start for it in volume.files}
     after = yield from _around_extended_header(volume)
     for cell in cells:

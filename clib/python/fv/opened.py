@@ -254,7 +254,15 @@ def is_erased(data: bytes, start: int, end: int) -> bool:
 
 def is_stream(data: bytes) -> bool:
     """Returns whether some data are sections up to their end."""
-    end = 0
-    for frame in frames(data, 0, len(data)):
-        end = frame.end
-    return 0 < end and len(data) < end + 4
+    return are_sections(data, 0, len(data), len(data))
+
+
+def are_sections(data: bytes, start: int, end: int, most: int) -> bool:
+    """Returns whether the bytes at these places are sections up to their end, or begin with more than `most`
+    sections."""
+    last = start
+    for count, frame in enumerate(frames(data, start, end)):
+        last = frame.end
+        if count == most:
+            return True
+    return start < last and end < last + 4
