@@ -186,12 +186,14 @@ def test_remains() -> None:
     named = made.volume([made.B], name=made.guid(9))
     assert unread_in(named) == [] and unread_in(changed(named, 72, *b"hidden")) == []
     sections = made.stream(made.section(made.PE32, made.noise("a", 300)), made.ui("Hidden"))
-    for kind, name in ((0x00, "type 00"), (made.RAW_FILE, "raw")):
-        found = unread_in(made.volume([made.file(made.guid(1), sections, kind)]))
-        assert found == [("sections", f"sections in a file of the type {name}")]
-    many = made.file(made.guid(1), made.section(made.RAW, b"") * 5000 + b"more", made.RAW_FILE)
-    assert [it[0] for it in unread_in(made.volume([many]))] == ["sections"]
-    assert unread_in(made.volume([made.file(made.guid(1), sections[:-9], made.RAW_FILE)])) == []
+    found = [("sections", "sections in a file of the unknown type 00")]
+    for kind, data, expected in (
+        (0x00, sections, found),
+        (0x00, made.section(made.RAW, b"") * 5000 + b"more", found),
+        (0x00, sections[:-9], []),
+        (made.RAW_FILE, sections, []),  # as the reset vector of EDK II
+    ):
+        assert unread_in(made.volume([made.file(made.guid(1), data, kind)])) == expected
     for gap in (bytes(64), b"\xff" * 64):
         assert unread_in(gap + made.SMALL + gap) == []
     assert unread_in(b"A" * 64 + made.SMALL) == [("", "it is in no volume")]

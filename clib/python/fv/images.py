@@ -496,13 +496,12 @@ def _what_volume(system: uuid.UUID, revision: int) -> str:
 
 
 def _remains(volume: Volume, cells: Sequence[Cell]) -> Iterator[Unread]:
-    """Yields the pads and fillers of a volume that hold bytes, its files that are not valid, and the data of its files
-    that are sections, although the types of the files say nothing of sections. (The data of a security core are read
-    as sections later, if they are.)"""
+    """Yields the pads and fillers of a volume that hold bytes, its files that are not valid, and the data of files of
+    unknown types if the data are sections."""
     data, start = volume.data, volume.offset
-    for file in (it for it in volume.files if not it.sections and it.kind != names.SECURITY_CORE):
+    for file in (it for it in volume.files if not it.sections and it.kind not in names.FILES):
         if are_sections(data, file.offset, file.offset + file.length, ENOUGH_SECTIONS):
-            reason = f"sections in a file of the type {file.type_name}"
+            reason = f"sections in a file of the unknown {file.type_name}"
             yield Unread(data, file.offset, file.length, "sections", reason, file.guid)
     valid = {it.offset - it.header_length - start for it in volume.files}
     after = yield from _around_extended_header(volume)
