@@ -241,7 +241,7 @@ def test_limits() -> None:
         (data, Limits(total=len(data) - 1)),
         (data, Limits(parts=2)),
         (heads, Limits(signatures=19)),
-        (heads, Limits(wasted=72 * 19)),
+        (heads, Limits(header_bytes=72 * 19)),
     ):
         try:
             images.read(data, limits)

@@ -25,6 +25,7 @@ class Limits:
     sections: int = 1_000  # sections that are opened
     parts: int = 100_000  # volumes, files and sections; a volume counts as four
     headers: int = 100_000  # headers of volumes that are looked at
+    header_bytes: int = 1 << 26  # bytes of these headers
     depth: int = 8  # opened sections inside one another, and groups inside one another
     memory: int = 1 << 29  # bytes of memory for a decoder of LZMA
     signatures: int = 1_000_000  # places that look like the signature of a volume
@@ -49,7 +50,7 @@ class Budget:
         self._left = self._total
         self._most_slow = self._slow = min(limits.slow, limits.slow_least + limits.slow_times * size)
         self._wasted = limits.wasted
-        self._parts = self._tried = self._sections = self._signatures = self._headers = 0
+        self._parts = self._tried = self._sections = self._signatures = self._headers = self._header_bytes = 0
         if size > limits.total:
             raise Full(f"{limits.total} bytes")
         self.keep(size)
@@ -74,9 +75,9 @@ class Budget:
         self._headers += 1
         if self._headers > self.limits.headers:
             raise Full(f"{self.limits.headers} headers of volumes")
-        self.waste(count)
-        if self._wasted < 0:
-            raise Full(f"{self.limits.wasted} bytes of headers")
+        self._header_bytes += count
+        if self._header_bytes > self.limits.header_bytes:
+            raise Full(f"{self.limits.header_bytes} bytes of headers")
 
     def work(self, count: int) -> None:
         """Takes symbols that Python itself unpacks."""

@@ -31,8 +31,8 @@ Files that are marked fixed are unpacked as all others. A rejected volume become
 others are unpacked. FOLDER must not exist, or must be empty. It gets its contents when everything is written, so it is
 never incomplete. Each file is new and no link is followed, so nothing outside of FOLDER is written to, even if other
 users may write to FOLDER; but they may then change what is in it. An image is not trusted: at most N bytes are written,
-with the index (1 GiB without --most), at most 1,000 sections are opened, and at most 100,000 parts are read. A file
-name that begins with a hyphen comes after `--`.
+with the index (1 GiB without --most), and at most 5,000 files and one more for each 256 bytes of the image. At most
+1,000 sections are opened, and at most 100,000 parts are read. A file name that begins with a hyphen comes after `--`.
 
 Exit status 0: everything is unpacked, or the part is written. 1: the image has no volume, a section is not opened or
 its contents may be wrong, or bytes are not read; or --only names no part, or several. 2: a volume is rejected; or there
@@ -62,6 +62,7 @@ NAME = "fv-unpack"
 USAGES = "[--most N] IMAGE FOLDER", "--list [--sums] [--json] [--most N] IMAGE", "--only PART [--most N] IMAGE [FILE]"
 INDEX = "index.tsv"
 FORMULA = "=", "+", "-", "@", "\t", "\r"  # with which a cell begins that a spreadsheet takes for a formula
+LEAST_FILES, BYTES_OF_FILE = 5_000, 256  # that an image may have, and one more for this many bytes of the image
 MOST_PATHS = 20  # that are listed if several parts have a name
 
 COLUMNS = ("path", "offset", "in", "part", "type", "guid", "name", "size", "sha256", "note")
@@ -195,12 +196,20 @@ def run(given: argparse.Namespace) -> int:
         print(*lines, sep="\n", end="\n" if found else "")
         return cli.OTHER
     if given.folder:
+        check_files(found, len(data))
         with filled_at_end(Path(os.path.realpath(given.folder)), given.most, INDEX) as tree:
             write(found, tree)
         print(*(it.line for it in found if it.line), sep="\n")
     else:
         print(*(objects if given.json else table)(found, given.sums), sep="\n")
     return max(it.status for it in found)
+
+
+def check_files(found: Iterable[Entry], size: int) -> None:
+    """Checks that an image of this many bytes has no more files than may be written. Raises Full if it has."""
+    most = LEAST_FILES + size // BYTES_OF_FILE
+    if sum(not it.is_folder for it in found) > most:
+        raise Full(f"{most} files")
 
 
 def write_only(found: Sequence[Entry], given: argparse.Namespace) -> int:
