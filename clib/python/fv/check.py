@@ -228,7 +228,9 @@ def names_in(path: str) -> list[bytes]:
 
 def parser() -> cli.Parser:
     """Returns the arguments of the command."""
-    made = cli.Parser(NAME, __doc__, f"{NAME} [--no-status] [--jobs N] [--from LIST] [--to ANSWERS] [--] [IMAGE ..]")
+    forms = "[--] IMAGE ..", "--from LIST [--] [IMAGE ..]"
+    start = f"{NAME} [--no-status] [--jobs N] [--to ANSWERS] "
+    made = cli.Parser(NAME, __doc__, "\n       ".join(f"{start}{it}" for it in forms))
     made.add_argument("images", metavar="IMAGE", nargs="*", help="an image")
     made.add_argument("--from", metavar="LIST", dest="list", help="a file with the name of an image in each line")
     made.add_argument("--to", metavar="ANSWERS", dest="answers", help="the file to which the lines are added")
