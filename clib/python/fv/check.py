@@ -228,7 +228,7 @@ def names_in(path: str) -> list[bytes]:
 
 def parser() -> cli.Parser:
     """Returns the arguments of the command."""
-    forms = "[--] IMAGE ..", "--from LIST [--] [IMAGE ..]"
+    forms = "[--] IMAGE ..", "--from LIST"
     start = f"{NAME} [--no-status] [--jobs N] [--to ANSWERS] "
     made = cli.Parser(NAME, __doc__, "\n       ".join(f"{start}{it}" for it in forms))
     made.add_argument("images", metavar="IMAGE", nargs="*", help="an image")
