@@ -82,8 +82,8 @@
  *   fv_node                     `offset` and, for a file, `header_length`. All other fields depend only on the meaning:
  *                               volumes of one meaning, such as a volume and its canonical image, have the same rows
  *                               except for these two fields.
- * The bytes that fv_volume_extract writes, and that the digests of fv_volume_tree_digests cover, are those of the
- * canonical image, so they depend only on the meaning too.
+ * fv_volume_extract writes bytes of the canonical image, and the digests of fv_volume_tree_digests cover bytes of the
+ * canonical image, so both depend only on the meaning too.
  *
  * Proofs: the calls from fv_header_read to fv_hobs_read are written in Rattle, below a layer in C. Each of them is
  * proved to do what its comment here says, if that layer accepts its pointers, except for these statements:

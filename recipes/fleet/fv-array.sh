@@ -4,8 +4,8 @@
 # task. A task writes its answers to another file and renames it to FOLDER/ID.tsv, so that file is always complete. If
 # the node of a task is lost, the task is put back in the queue (--requeue). A task whose file exists ends at once, so
 # the same command does the remaining tasks. Exit status 0: the file exists. 1: the task is missing, LIST cannot be read
-# or has no image for the task, or FOLDER cannot be used. 3: the arguments are wrong. 4: fv-check has failed. With any
-# other status than 0 there is no file.
+# or has no image for the task, or FOLDER cannot be used. 3: the arguments are wrong. 4: fv-check has failed. The
+# script writes the file only if it ends with 0.
 #SBATCH --requeue
 #SBATCH --job-name=fvcheck
 set -euo pipefail

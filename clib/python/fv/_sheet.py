@@ -233,7 +233,7 @@ class _Maker:
         self.cuts: dict[str, bool] = {}  # in the order in which they came
 
     def sheets(self, volumes: Iterable[Volume], digests: dict[int, bytes] | None = None) -> list[Sheet]:
-        """Returns the sheets of the volumes in one image or in one section. `digests` are those of the files in a
+        """Returns the sheets of the volumes in one image or in one section. `digests` has the digests of the files in a
         volume around them, by the offsets of their data."""
         found = list(volumes)
         shown = found[: self._left]

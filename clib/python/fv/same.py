@@ -36,7 +36,7 @@ from __future__ import annotations
 import contextlib
 import hashlib
 import json
-from collections import Counter
+from collections import Counter, deque
 from collections.abc import Callable, Iterable, Iterator, Sequence
 from dataclasses import asdict, dataclass, field
 from itertools import zip_longest
@@ -303,13 +303,13 @@ def first_difference(one: bytes, two: bytes) -> int:
 def _moves(first: list[Volume], second: list[Volume]) -> list[Move]:
     """Returns the volumes of one image that mean the same as a volume at another place of the other image. Each volume
     is in one move."""
-    left: dict[Any, list[Volume]] = {}
+    left: dict[Any, deque[Volume]] = {}
     for volume in second:
-        left.setdefault(_meaning(volume), []).append(volume)
+        left.setdefault(_meaning(volume), deque()).append(volume)
     moves = []
     for volume in first:
         if places := left.get(_meaning(volume)):
-            moves.append(Move(volume.offset, places.pop(0).offset, volume.length))
+            moves.append(Move(volume.offset, places.popleft().offset, volume.length))
     return moves
 
 

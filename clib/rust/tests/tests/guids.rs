@@ -12,7 +12,7 @@ fn text_of(guid: Guid) -> String {
         bytes: guid.to_bytes_le(),
     };
     let mut text = [0xe7; sys::FV_GUID_TEXT_SIZE as usize];
-    // SAFETY: the pointers are those of a GUID and of a buffer with this many bytes.
+    // SAFETY: one pointer leads to a GUID, and the other to a buffer with this many bytes.
     let result =
         unsafe { sys::fv_guid_text(&guid, text.as_mut_ptr().cast::<c_char>(), text.len()) };
     assert_eq!((result, text.last()), (sys::FV_OK, Some(&0)));
