@@ -3,7 +3,7 @@
 """An example for Python programs: lists the volumes of a flash image with their files and bytes of data, and reports
 whether all of the volumes are canonical.
 
-    LIBFV=clib/out/libfv.so.2 PYTHONPATH=clib/python examples/volumes.py IMAGE"""
+    LIBFV=libfv/out/libfv.so.2 PYTHONPATH=python examples/volumes.py IMAGE"""
 
 from __future__ import annotations
 

@@ -1,4 +1,4 @@
-//! The sizes in bytes of the structures that C shares. `clib/include/fv.h` asserts the same.
+//! The sizes in bytes of the structures that C shares. `libfv/include/fv.h` asserts the same.
 
 use crate::canonical::FvSha256;
 use crate::cells::FvCell;

@@ -1,5 +1,5 @@
 //! The reader, the checker, the rebuilder and the comparer for programs written in C. The calls of
-//! `clib/include/fv.h` are in `clib/src/calls.c`. Each checks its pointers, and then makes the call
+//! `libfv/include/fv.h` are in `libfv/src/calls.c`. Each checks its pointers, and then makes the call
 //! of this crate that has the same parameters: `fv_header_read` calls `fvp_header_read`.
 //!
 //! A call returns 0 if it succeeds. A number below 256 is a fault of a volume. 256 means that a

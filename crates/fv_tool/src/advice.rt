@@ -5,7 +5,7 @@ use fv_base::FaultKind;
 use std::fmt;
 use std::io::ErrorKind;
 
-/// The version of the program, as in the file `VERSION` (`packaging/version --write`).
+/// The version of the program, as in the file `VERSION` (`tools/version --write`).
 pub const VERSION: &str = "2.1.0-dev";
 
 /// The forms of the command line, as in `docs/PROGRAM.md`.

@@ -1,4 +1,4 @@
-//! Deleted and incomplete files, and failed allocations: `.ci/memory` makes each allocation of the
+//! Deleted and incomplete files, and failed allocations: `tests/program/memory` makes each allocation of the
 //! test fail in turn, and no wrong result may be returned.
 
 use super::written::{file_head, is_joined, pad_head};

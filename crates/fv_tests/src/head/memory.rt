@@ -1,4 +1,4 @@
-//! The fields of a header, and failed allocations: `.ci/memory` makes each allocation of the test
+//! The fields of a header, and failed allocations: `tests/program/memory` makes each allocation of the test
 //! fail in turn, and no wrong result may be returned.
 
 use super::extended::{BARE, has_ext, image_ext, image_head, is_written_until};

@@ -1,4 +1,4 @@
-//! Failed allocations: `.ci/memory` makes each allocation of the test fail in turn, and no wrong
+//! Failed allocations: `tests/program/memory` makes each allocation of the test fail in turn, and no wrong
 //! result may be returned.
 
 use super::streams::{ExpectedFrame, PAIR, PAIR_FRAMES, has_frame_at, is_split};

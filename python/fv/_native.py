@@ -1,0 +1,199 @@
+# SPDX-License-Identifier: BSD-2-Clause-Patent
+"""The constants, formats and calls of fv.h, for ctypes and struct.
+
+Made from fv.h by libfv/generate: change fv.h, and run libfv/generate."""
+
+from __future__ import annotations
+
+import ctypes as c
+import enum
+from typing import Any
+
+VERSION = "2.1.0-dev"
+VERSION_MAJOR = 2
+VERSION_MINOR = 1
+VERSION_PATCH = 0
+VERSION_NUMBER = 0x020100
+LENGTH_MAX = 268435456
+DIFFERENCE_SIZE = 553
+GUID_TEXT_SIZE = 37
+NO_PARENT = 2**64 - 1
+
+# The results of calls, except the faults.
+OK = 0
+OUT_OF_MEMORY = 24
+BUFFER_TOO_SMALL = 0x100
+NOT_FOUND = 0x101
+BAD_ARGUMENT = 0x102
+BAD_GUID = 0x103
+
+# The value of a dependency expression. BEFORE and AFTER only say in which order drivers run, and have no truth value:
+# FV_DEPEX_ORDER.
+DEPEX_FALSE = 0
+DEPEX_TRUE = 1
+DEPEX_ORDER = 2
+
+# The formats by which struct unpacks the structures, without reserved fields.
+GUID_FORMAT = "=16s"
+SHA256_FORMAT = "=32s"
+FAULT_FORMAT = "=QIII4x"
+HEADER_FORMAT = "=QQQIIII16s8x"
+VOLUME_CHECK_FORMAT = "=QQQIII4xI4x"
+COMPARISON_FORMAT = "=QI4x"
+CELL_FORMAT = "=QQIIII16s8x"
+NODE_FORMAT = "=QQQQIIIIII16sI12x"
+HOB_FORMAT = "=QQII8x"
+
+_pointer, _size, _u32, _text = c.c_void_p, c.c_void_p, c.c_uint32, c.c_char_p
+# The type of the result and the types of the parameters of each call. A pointer is an address or bytes. Two things
+# save time: c_void_p takes a number of 64 bits sooner than c_size_t does, and the last pointers have no type,
+# because they are always bytes.
+CALLS: dict[str, tuple[Any, list[Any]]] = {
+    "fv_version_number": (_u32, []),
+    "fv_version": (_text, []),
+    "fv_result_text": (_text, [_u32]),
+    "fv_header_read": (_u32, [_pointer, _size]),
+    "fv_image_scan": (_u32, [_pointer, _size, _pointer, _size]),
+    "fv_image_check": (_u32, [_pointer, _size, _pointer, _size]),
+    "fv_image_normalise": (_u32, [_pointer, _size, _pointer, _size]),
+    "fv_volume_is_canonical": (_u32, [_pointer, _size]),
+    "fv_volume_normalise": (_u32, [_pointer, _size, _pointer, _size]),
+    "fv_volume_unfix": (_u32, [_pointer, _size, _pointer, _size]),
+    "fv_volume_digest": (_u32, [_pointer, _size]),
+    "fv_volume_compare": (_u32, [_pointer, _size, _pointer, _size, _pointer, _size]),
+    "fv_volume_cells": (_u32, [_pointer, _size, _pointer, _size]),
+    "fv_volume_tree": (_u32, [_pointer, _size, _pointer, _size]),
+    "fv_volume_tree_digests": (_u32, [_pointer, _size, _pointer, _size]),
+    "fv_volume_extract": (_u32, [_pointer, _size, _size, _pointer, _size]),
+    "fv_depex_evaluate": (_u32, [_pointer, _size, _u32, _pointer, _size]),
+    "fv_hobs_read": (_u32, [_pointer, _size, _pointer, _size]),
+}
+
+
+class FaultCode(enum.IntEnum):
+    """The codes of the faults. docs/FAULTS.md explains each fault. The codes from 0x200 on are faults of dependency
+    expressions, and those from 0x300 on are faults of hand-off lists."""
+
+    TRUNCATED = 1
+    SIGNATURE = 2
+    FILE_SYSTEM = 3
+    REVISION = 4
+    HEADER_LENGTH = 5
+    HEADER_SUM = 6
+    BLOCK_MAP = 7
+    LENGTH = 8
+    EXT_HEADER = 9
+    FILE_STATE = 10
+    FILE_HEADER_SUM = 11
+    FILE_SIZE = 12
+    LARGE_FILE = 13
+    FILE_SUM = 14
+    FIXED = 15
+    FREE_SPACE = 16
+    DUPLICATE_NAME = 17
+    TOP_FILE = 18
+    SECTION_SIZE = 19
+    SECTION_TAIL = 20
+    DEPTH = 21
+    NO_ROOM = 22
+    TOP_ALIGNMENT = 23
+    DEPEX_SHORT = 0x201
+    DEPEX_OPCODE = 0x202
+    DEPEX_STACK = 0x203
+    DEPEX_NO_END = 0x204
+    DEPEX_POSITION = 0x205
+    HOB_SHORT = 0x301
+    HOB_LENGTH = 0x302
+    HOB_FIRST = 0x303
+    HOB_SHAPE = 0x304
+    HOB_NO_END = 0x305
+
+
+class CellKind(enum.IntEnum):
+    """The kinds of cells of a volume's body: a valid file, even if it is superseded; a pad file; a deleted file; a file
+    whose data or header were never finished; erased bytes up to the end of the volume. The state of the file decides
+    between deleted and unfinished."""
+
+    FILE = 1
+    PAD = 2
+    DELETED = 3
+    UNFINISHED = 4
+    FREE = 5
+
+
+class NodeKind(enum.IntEnum):
+    """The kinds of rows of a tree."""
+
+    VOLUME = 1
+    FILE = 2
+    SECTION = 3
+
+
+class Content(enum.IntEnum):
+    """The kinds of contents of a row's part: a volume holds files; a file holds bytes or sections; a section holds
+    bytes, sections (it is a group) or a volume. The type of a file decides: it holds sections if the type is 0x02 or
+    0x04 to 0x0F, and bytes otherwise, also for a security core (0x03). A file of these types, or a group, holds
+    sections even if it has no bytes: then no row is below its row."""
+
+    FILES = 0
+    BYTES = 1
+    SECTIONS = 2
+    VOLUME = 3
+
+
+class FileType(enum.IntEnum):
+    """The types of files, with the names of the specification after EFI_FV_FILETYPE_. A file may have any other type
+    too: 0xC0 to 0xDF are for vendors, and 0xE0 to 0xEF for debugging."""
+
+    RAW = 0x01
+    FREEFORM = 0x02
+    SECURITY_CORE = 0x03
+    PEI_CORE = 0x04
+    DXE_CORE = 0x05
+    PEIM = 0x06
+    DRIVER = 0x07
+    COMBINED_PEIM_DRIVER = 0x08
+    APPLICATION = 0x09
+    MM = 0x0A
+    FIRMWARE_VOLUME_IMAGE = 0x0B
+    COMBINED_MM_DXE = 0x0C
+    MM_CORE = 0x0D
+    MM_STANDALONE = 0x0E
+    MM_CORE_STANDALONE = 0x0F
+    FFS_PAD = 0xF0
+
+
+class SectionType(enum.IntEnum):
+    """The types of sections, with the names of the specification after EFI_SECTION_. A section may have any other type
+    too."""
+
+    COMPRESSION = 0x01
+    GUID_DEFINED = 0x02
+    DISPOSABLE = 0x03
+    PE32 = 0x10
+    PIC = 0x11
+    TE = 0x12
+    DXE_DEPEX = 0x13
+    VERSION = 0x14
+    USER_INTERFACE = 0x15
+    COMPATIBILITY16 = 0x16
+    FIRMWARE_VOLUME_IMAGE = 0x17
+    FREEFORM_SUBTYPE_GUID = 0x18
+    RAW = 0x19
+    PEI_DEPEX = 0x1B
+    MM_DEPEX = 0x1C
+
+
+class Phase(enum.IntEnum):
+    """The phase in which a dependency expression is evaluated. Phase.DXE is for DXE and for MM."""
+
+    PEI = 0
+    DXE = 1
+
+
+def declare(library: c.CDLL) -> None:
+    """Gives each call of the library the types of its parameters and of its result. Raises AttributeError if the
+    library has no such call."""
+    for name, (result, arguments) in CALLS.items():
+        call = getattr(library, name)
+        call.restype, call.argtypes = result, arguments

@@ -1,0 +1,80 @@
+#!/usr/bin/env python3
+# SPDX-License-Identifier: BSD-2-Clause-Patent
+"""seeds.py FOLDER: writes the first inputs of the fuzzer, always the same, each after the parameters that harness.h
+describes. FOLDER/seeds gets volumes, flash images, hand-off lists and expressions as tests/fuzz/fuzz.py makes them.
+FOLDER/few gets an empty volume and an expression of two ops. The mutator itself has to reach all other inputs from
+these two."""
+
+from __future__ import annotations
+
+import argparse
+import random
+import sys
+from collections.abc import Iterator
+from dataclasses import dataclass
+from pathlib import Path
+
+from tests.fuzz.fuzz import Maker, make_case
+from tests.fuzz.hostile import volume
+
+AS_VOLUME, AS_EXPRESSION, AS_HAND_OFF_LIST, AS_PAIR, AS_IMAGE_AND_VOLUME = 0, 4, 5, 6, 7  # as in harness.h
+MODES = {"volume": AS_VOLUME, "image": AS_IMAGE_AND_VOLUME, "list": AS_HAND_OFF_LIST}
+SEED, CASES, EXPRESSIONS = 7, 300, 20
+MOST = 4000  # bytes; a small input is tried more often
+
+
+@dataclass(frozen=True)
+class Seed:
+    """A first input: the name of its file, and its bytes with the parameters."""
+
+    name: str
+    data: bytes
+
+
+def parameters(source: random.Random, mode: int, pair: int = 0) -> bytes:
+    """Returns parameters of an input. In each of its first runs either no allocation fails or an early allocation
+    fails."""
+    refused = [source.choice((255, source.randrange(20))) for _ in range(3)]
+    return bytes([mode, pair, *source.randbytes(3), *refused])
+
+
+def seeds() -> Iterator[Seed]:
+    """Returns the inputs of FOLDER/seeds."""
+    source = random.Random(SEED)
+    for number in range(CASES):
+        case = make_case(SEED, number)
+        if case.kind in MODES and len(case.data) <= MOST:
+            yield Seed(f"{case.kind}-{number}", parameters(source, MODES[case.kind]) + case.data)
+        if case.twin and len(case.data + case.twin) <= MOST and number % 4 == 0:
+            yield Seed(f"pair-{number}", parameters(source, AS_PAIR, 1) + case.data + case.twin)
+    for number in range(EXPRESSIONS):
+        ops = Maker(f"expression {number}").expression()
+        yield Seed(f"expression-{number}", parameters(source, AS_EXPRESSION, source.randrange(4)) + ops)
+
+
+def few() -> Iterator[Seed]:
+    """Returns the inputs of FOLDER/few."""
+    none_refused = bytes([0, 0, 0, 0, 255, 255, 255])
+    empty = volume(b"\xff" * 120)
+    yield Seed("volume", bytes([AS_VOLUME]) + none_refused + empty)
+    yield Seed("image", bytes([AS_IMAGE_AND_VOLUME]) + none_refused + empty)
+    yield Seed("expression", bytes([AS_EXPRESSION]) + none_refused + b"\x06\x08")
+
+
+def main() -> None:
+    """Reads the argument, and writes the inputs."""
+    reader = argparse.ArgumentParser(description="Writes the first inputs of the fuzzer.")
+    reader.add_argument("folder", type=Path, help="the folder that gets the folders seeds and few")
+    given = reader.parse_args()
+    for kind, made in ("seeds", seeds()), ("few", few()):
+        folder = given.folder / kind
+        folder.mkdir(parents=True, exist_ok=True)
+        count = 0
+        for seed in made:
+            (folder / seed.name).write_bytes(seed.data)
+            count += 1
+        print(f"{count} inputs in {folder.name}")
+
+
+if __name__ == "__main__":
+    main()

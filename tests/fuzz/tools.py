@@ -1,0 +1,268 @@
+#!/usr/bin/env python3
+# SPDX-License-Identifier: BSD-2-Clause-Patent
+"""Tries the readers of the Python package with the inputs of fuzz.py: `fv.images`, which opens compressed sections, and
+what fv-unpack, fv-same, fv-text, fv-map and fv-sbom show of an image. These readers are not proved, so an input may
+find defects that no other tool finds.
+
+An input is a volume or a flash image, which may be packed into sections of a volume, up to three times: LZMA, Brotli,
+CRC32, stored or of an unknown GUID. Of the packed data, some are changed. For each input the script checks that
+
+- no reader raises an exception, except `Full`, and none takes more than SECONDS;
+- the volumes and the bytes beside them are the image, and each part lies in the part that holds it;
+- a volume has a fault exactly if the library rejects it, and then it has no files;
+- the paths of fv-unpack differ from one another, lead out of no folder, and have no control characters;
+- an image is the same as itself, and as another volume of the same meaning;
+- no line that is shown has a control character.
+
+LIBFV names the library, which is libfv/out/libfv.so.2 if nothing is named. The exit status is 1 if there is a finding.
+The input of a finding is kept in tests/fuzz/out/."""
+
+from __future__ import annotations
+
+import argparse
+import lzma
+import os
+import random
+import re
+import sys
+import time
+import traceback
+import uuid
+from collections.abc import Callable, Iterable, Iterator
+from pathlib import Path
+
+ROOT = Path(__file__).resolve().parents[2]
+os.environ.setdefault("LIBFV", str(ROOT / "libfv/out/libfv.so.2"))
+
+from tests.fuzz import fuzz
+from tests import making as made
+
+import fv
+from fv import images, same, sbom, text, unpack
+from fv._sheet import drawing_of
+from fv.limits import Full, Limits
+from fv.map import draw
+from fv.names import CODE, Names
+
+SECONDS = 20
+LIMITS = Limits(total=1 << 26, section=1 << 24, slow=1 << 16)
+NAMES = Names()
+CRC32 = uuid.UUID("fc1bcdb0-7d31-49aa-936a-a4600d9dd083")
+
+
+def stored(data: bytes) -> bytes:
+    """Returns a compression section that does not compress."""
+    return made.section(0x01, len(data).to_bytes(4, "little") + b"\0" + data)
+
+
+def by_tiano(data: bytes) -> bytes:
+    """Returns a compression section of type 1."""
+    return made.section(0x01, len(data).to_bytes(4, "little") + b"\1" + made.packed_by_tiano(data[:4096], 4))
+
+
+WAYS: list[Callable[[bytes], bytes]] = [
+    made.compressed,
+    made.compressed_code,
+    stored,
+    by_tiano,
+    lambda data: made.guided(CRC32, b"\0" * 4 + data),
+    lambda data: made.guided(uuid.UUID(int=7), data),
+    lambda data: made.section(0x17, data),
+    lambda data: made.section(0x02, data),
+    lambda data: made.stream(made.section(0x15, "Name".encode("utf-16-le") + b"\0\0"), made.section(0x19, data)),
+]
+
+
+def packed(pick: random.Random, data: bytes) -> bytes:
+    """Returns a volume with a file whose sections hold some data."""
+    if len(data) > 1 << 18:
+        return data
+    section = pick.choice(WAYS)(data)
+    if pick.random() < 0.3:
+        section = fuzz.broken(pick, section)
+    sections = section if pick.random() < 0.5 else made.stream(made.section(0x17, data), section)
+    name, kind = made.guid(pick.randrange(9)), pick.choice((made.FREEFORM, made.DXE_DRIVER, 0x0B, 0x03, 0x05))
+    attributes = pick.choice((0, 0, 0, made.FIXED))
+    length = max(0x8000, (len(sections) + 0x1000 + 7) & ~7)
+    return made.volume([made.file(name, sections, kind, attributes)], length)
+
+
+def inputs(seed: int, index: int) -> tuple[bytes, bytes | None]:
+    """Returns the input with this number, and another image of the same meaning, if there is one."""
+    pick = random.Random(f"{seed}/{index} tools")
+    case = fuzz.make_case(seed, index)
+    data, twin = case.data, case.twin
+    for _ in range(pick.choice((0, 0, 1, 1, 2, 3))):
+        data, twin = packed(pick, data), None
+    before = pick.choice((b"", b"", bytes(8), b"\xff" * 64, bytes(28)))
+    if before:
+        data, twin = before + data, None
+    if pick.random() < 0.1:
+        data, twin = fuzz.broken(pick, data), None
+    return data, twin
+
+
+def require(holds: object, *what: object) -> None:
+    """Raises an error with these texts if a promise is not kept."""
+    if not holds:
+        raise AssertionError("; ".join(str(it)[:500] for it in what))
+
+
+def is_shown(line: str) -> bool:
+    """Returns whether a line can be written and is free of control characters."""
+    line.encode("utf-8")
+    return not any(ord(sign) < 32 or 127 <= ord(sign) < 160 for sign in line)
+
+
+def check_content(content: images.Content) -> None:
+    """Checks that the parts of an image, or of opened contents, lie where they should."""
+    pieces = sorted([*content.volumes, *content.others], key=lambda it: it.offset)
+    require(content.data[: content.end] + b"".join(it.body for it in pieces) == content.data, "bytes are missing")
+    for volume in content.volumes:
+        check_volume(volume, 0, len(content.data))
+    check_sections(content.sections, 0, content.end)
+    check_unread(content)
+
+
+def check_unread(content: images.Content) -> None:
+    """Checks that each gap that is not erased, and each place where a volume is likely to begin, is read or reported.
+    Places in the bodies of sections that may be opened, or are code, are left out."""
+    gaps = {(it.offset, it.length) for it in content.unread if it.is_gap}
+    shown = {(it.offset, it.length) for it in content.others if len({*it.body}) > 1 or it.body[0] not in (0, 255)}
+    require(gaps == shown, "other gaps", gaps, shown)
+    known = {it.offset for it in content.unread} | {*starts_in(content.every_volume())}
+    packed = [it for it in packed_in(content) if it.is_packed or it.kind in CODE]
+    for found in re.finditer(rb"(?=\0\0\0\0_FVH)", content.data):
+        at = found.start() - 36
+        length, header = int.from_bytes(content.data[at + 32 : at + 36], "little"), content.data[at + 48 : at + 50]
+        is_likely = at >= 0 and at + 56 <= len(content.data) and 56 <= int.from_bytes(header, "little") <= length
+        is_inside = any(it.offset - 56 < at < it.offset + it.length for it in packed)
+        require(not is_likely or at in known or is_inside, "a volume is passed over", at)
+
+
+def starts_in(volumes: Iterable[images.Volume]) -> Iterator[int]:
+    """Yields where volumes, the volumes inside them, and the parts that are not read begin."""
+    for volume in volumes:
+        yield from (volume.offset, *(it.offset for it in volume.unread))
+        for file in volume.files:
+            yield from starts_in(images.volumes_in(file.sections))
+
+
+def packed_in(content: images.Content) -> Iterator[images.Section]:
+    """Yields the sections of the data that are not groups, also those in volumes."""
+    yield from images.leaves(content.sections)
+    for volume in content.every_volume():
+        for file in images.stored_files(volume):
+            yield from images.leaves(file.sections)
+
+
+def check_volume(volume: images.Volume, start: int, end: int) -> None:
+    """Checks a volume between two offsets."""
+    require(start <= volume.offset and volume.offset + volume.length <= end, "a volume lies outside", volume.offset)
+    try:
+        fv.volume_tree(volume.plain)
+        fault = None
+    except fv.FaultError as error:
+        fault = error.fault
+    require((fault is None) == (volume.fault is None), "another fault", fault, volume.fault)
+    require(volume.fault is None or not volume.files, "a rejected volume has files")
+    for file in volume.files:
+        require(volume.offset <= file.offset - file.header_length, "a file before its volume")
+        require(file.offset + file.length <= volume.offset + volume.length, "a file after its volume")
+        require(file.is_fixed <= volume.is_marked, "a fixed file in a volume without marks")
+        check_sections(file.sections, file.offset, file.offset + file.length)
+
+
+def check_sections(sections: list[images.Section], start: int, end: int) -> None:
+    """Checks sections between two offsets."""
+    for section in sections:
+        require(start <= section.offset - section.header_length, "a section before its place", section.offset)
+        require(section.offset + section.length <= end, "a section after its place", section.offset)
+        require(not (section.opened and section.closed), "a section is opened and closed")
+        check_sections(section.sections, section.offset, section.offset + section.length)
+        if section.volume:
+            check_volume(section.volume, section.offset, section.offset + section.length)
+        if section.opened:
+            check_content(section.opened)
+        require(is_shown(section.closed), "a reason", section.closed)
+        require(isinstance(section.text, str))
+
+
+def check_shown(data: bytes, image: images.Content) -> None:
+    """Checks what the commands show of an image."""
+    entries = list(unpack.entries(image, NAMES))
+    paths = [it.path for it in entries]
+    require(len({*paths}) == len(paths), "a path occurs twice")
+    for path in paths:
+        require(is_shown(path) and not path.startswith("/") and "\\" not in path, "a path", path)
+        require(not {"", ".", ".."} & {*path.removesuffix("/").split("/")}, "a path", path)
+        require(all(len(part.encode()) <= 255 for part in path.split("/")), "a long path", path)
+    rows = [unpack.index_row(it) for it in entries]
+    require(all(row.count("\t") == rows[0].count("\t") for row in rows), "a row of the index")
+    lines = [*unpack.table(entries, True), *text.shown(data, True), *text.shown(data, False), *rows]
+    require(all(is_shown(line.replace("\t", "").rstrip("\n")) for line in lines), "a line")
+    sbom.bill("image", data, entries)
+    drawing = drawing_of("image", image, NAMES, 1000)
+    require(draw(drawing, drawing).endswith("</html>\n"), "no whole page")
+
+
+def check_same(data: bytes, other: bytes | None, changed: bytes) -> None:
+    """Checks comparisons of an image."""
+    require(same.compare_images(data, bytes(bytearray(data)), True).verdict == same.SAME, "another image than itself")
+    for it in (True, False):
+        [*same.report_lines(same.compare_images(data, changed, it, LIMITS))]
+    if other is not None:
+        report = same.compare_images(data, other, True)
+        require(report.verdict == same.SAME, "another meaning", *same.report_lines(report))
+
+
+def check(data: bytes, twin: bytes | None, pick: random.Random) -> None:
+    """Makes all checks of an input."""
+    began = time.process_time()
+    try:
+        image = images.read(data, LIMITS)
+    except Full:
+        return
+    check_content(image)
+    check_shown(data, image)
+    check_same(data, twin, fuzz.broken(pick, data))
+    took = time.process_time() - began
+    require(took < SECONDS, f"{took:.1f} seconds")
+
+
+def run(seed: int, numbers: Iterator[int], end: float) -> tuple[int, int]:
+    """Tries inputs until a time, and returns how many there were and how many findings."""
+    count = findings = 0
+    for index in numbers:
+        if time.monotonic() > end:
+            break
+        count += 1
+        data, twin = inputs(seed, index)
+        try:
+            check(data, twin, random.Random(f"{seed}/{index} other"))
+        except Exception:
+            findings += 1
+            kept = ROOT / "tests/fuzz/out" / f"tools-{seed}-{index}"
+            kept.parent.mkdir(exist_ok=True)
+            kept.with_suffix(".bin").write_bytes(data)
+            kept.with_suffix(".txt").write_text(traceback.format_exc(), encoding="utf-8")
+            print(f"finding: {kept}.bin: {traceback.format_exc().splitlines()[-1][:300]}", flush=True)
+    return count, findings
+
+
+def main() -> int:
+    """Tries inputs, and returns the exit status."""
+    reader = argparse.ArgumentParser(description="Tries the readers of the Python package with the inputs of fuzz.py.")
+    reader.add_argument("--seed", type=int, default=1)
+    reader.add_argument("--first", type=int, default=0, help="the number of the first input")
+    reader.add_argument("--count", type=int, default=1000, help="how many inputs")
+    reader.add_argument("--seconds", type=float, default=3600, help="no new input after this many seconds")
+    given = reader.parse_args()
+    numbers = iter(range(given.first, given.first + given.count))
+    count, findings = run(given.seed, numbers, time.monotonic() + given.seconds)
+    print(f"tools: {count} inputs, seed {given.seed}, {findings} findings")
+    return 1 if findings else 0
+
+
+if __name__ == "__main__":
+    sys.exit(main())

@@ -1,0 +1,210 @@
+#!/usr/bin/env python3
+# SPDX-License-Identifier: BSD-2-Clause-Patent
+"""Checks the words, sentences and widths of documents, comments of code, definitions and proofs, and the help of scripts
+(their docstrings and the texts of argparse).
+
+- Documents and comments do not use the words below that have a plainer word. (The words of WORDS_OF_DOCUMENTS may be
+  used in comments, and in CONTRIBUTING.md, which lists them.)
+- No sentence leaves out the noun that it is about ("What is installed has a page", "Those of a pad are not read"), and
+  none turns a negative around ("is no volume").
+- No line is too wide. Documents, comments and help have at most 120 characters in a line, and cells of tables at most 200.
+
+Words and sentences are not checked in code, in examples, in quoted texts, and in names that are in backticks or between
+asterisks (names of functions, definitions and clauses). CONTRIBUTING.md explains the style."""
+
+from __future__ import annotations
+
+import ast
+import os
+import re
+import sys
+from collections.abc import Iterator
+from dataclasses import dataclass, field
+
+from tests.checks import ROOT, found_by, read, report, scripts
+
+# Words to avoid, and what to write instead.
+WORDS = {
+    r"want of memory|memory is wanted": "out of memory, memory runs out",
+    r"behind(?! a pointer)": "after",
+    r"stands?": "is",
+    r"(?:is|are) told": "is reported",
+    r"aside": "except",
+    r"answers (?:the|a|an|its|which|what|where)": "returns",
+    r"answered": "returned",
+    r"nought": "zero",
+    r"handed": "passed",
+    r"(?:is|are) let go": "is dropped",
+}
+# Words to avoid in documents only.
+WORDS_OF_DOCUMENTS = {
+    r"alone": "only, on its own",
+    r"but for": "except for",
+    r"tells?(?! \w+ apart)": "says, reports",
+    r"so many": "this many",
+    r"a front": "a first part",
+}
+# Sentences that have to be read twice, and what to do about them. A sentence begins at the head of a paragraph, or
+# after one of these signs.
+HEAD = r"(?:^|[.:;!?] )"
+COMPARED = "longer|more|less|fewer|later|earlier|larger|smaller|greater|newer|older"
+SENTENCES = {
+    rf"{HEAD}(?:[Ww]hat (?:is|are|was|were|has|have|had)|[Ww]hatever is) (?![^.;:]*\?)": (
+        "name the thing, as 'the installed files'"
+    ),
+    rf"{HEAD}(?:[Tt]hat|[Tt]hose) of ": "name the thing again, as 'a volume's digest'",
+    rf"{HEAD}Of (?:a|an|the|all|each|every|these|those|this|what|its|two) ": (
+        "begin with the subject, as 'A pad's checksum'"
+    ),
+    rf"(?<![Tt]here )\b(?:is|are|was|were|be) no (?!{COMPARED})": "write 'is not a'",
+}
+# Places where a sentence of this form is right: the file, and the words of the text.
+ALLOWED = {
+    ("recipes/README.md", "what is where, and what changed"),
+    ("recipes/map/README.md", "what is where, how large it is"),
+}
+LINE, CELL = 120, 200
+COMMENT = re.compile(r"\s*(?:--|//[/!]?)(?: |$)(.*)")
+# The arguments of argparse that are shown to a user.
+HELP = {"help", "description", "epilog", "usage"}
+QUOTED = re.compile(r"`[^`]*`|\"[^\"]*\"|\*[a-z_]+\*")
+
+
+@dataclass
+class Paragraph:
+    """Lines with their numbers, which are read as one text."""
+
+    lines: list[tuple[int, str]] = field(default_factory=list)
+
+    def text(self) -> str:
+        """Returns the lines joined, with a mark in place of each quoted character."""
+        return QUOTED.sub(lambda it: "`" * len(it[0]), " ".join(line for _, line in self.lines))
+
+    def line_at(self, place: int) -> int:
+        """Returns the number of the line that contains this place of the text."""
+        for number, line in self.lines:
+            place -= len(line) + 1
+            if place < 0:
+                return number
+        return self.lines[-1][0]
+
+
+def read_lines(path: str) -> list[str]:
+    """Returns the lines of a file."""
+    return read(path).split("\n")
+
+
+def paragraphs(lines: list[tuple[int, str | None]]) -> Iterator[Paragraph]:
+    """Divides lines into paragraphs: at lines that are empty or None, before an item of a list, and at each row of a
+    table."""
+    found = Paragraph()
+    for number, line in lines:
+        bare = "" if line is None else line.strip()
+        begins = re.match(r"[-*] |\d+\. |[|#>]", bare)
+        if (begins or not bare) and found.lines:
+            yield found
+            found = Paragraph()
+        if bare:
+            found.lines.append((number, bare))
+    if found.lines:
+        yield found
+
+
+def of_document(path: str) -> Iterator[tuple[int, str | None]]:
+    """Returns the lines of a document, with None in place of code and examples."""
+    is_code = False
+    for number, line in enumerate(read_lines(path), 1):
+        is_fence = line.startswith("```")
+        is_code ^= is_fence
+        is_example = line.startswith("    ") and not re.match(r" +(?:[-*]|\d+\.) ", line)
+        yield number, None if is_code or is_fence or is_example else line
+
+
+def of_comments(path: str) -> Iterator[tuple[int, str | None]]:
+    """Returns the comments of a file of code, definitions or proofs, with None in place of all other lines."""
+    for number, line in enumerate(read_lines(path), 1):
+        match = COMMENT.match(line)
+        yield number, match[1] if match else None
+
+
+def texts_of(tree: ast.AST) -> Iterator[tuple[int, str]]:
+    """Returns the texts of a script that a user reads, each with the number of its first line: comments of modules,
+    classes and functions, and help."""
+    for node in ast.walk(tree):
+        if isinstance(node, ast.Module | ast.ClassDef | ast.FunctionDef) and ast.get_docstring(node):
+            text = node.body[0].value if isinstance(node.body[0], ast.Expr) else None
+        elif isinstance(node, ast.keyword) and node.arg in HELP:
+            text = node.value
+        else:
+            continue
+        if isinstance(text, ast.Constant) and isinstance(text.value, str):
+            yield text.lineno, text.value
+
+
+def of_script(path: str) -> Iterator[tuple[int, str | None]]:
+    """Returns the lines of a script's comments and help, with an empty line after each text."""
+    for first, text in texts_of(ast.parse("\n".join(read_lines(path)))):
+        lines = text.split("\n")
+        yield from ((first + number, line) for number, line in enumerate(lines))
+        yield first + len(lines), None
+
+
+def hard_words(text: str, table: dict[str, str]) -> Iterator[tuple[int, str]]:
+    """Returns the places of words to avoid, with the words to use instead."""
+    for hard, plain in table.items():
+        for match in re.finditer(rf"\b(?:{hard})\b", text):
+            yield match.start(), f"'{match[0]}', not '{plain}'"
+
+
+def hard_sentences(path: str, text: str) -> Iterator[tuple[int, str]]:
+    """Returns the places of sentences that have to be read twice, with the way to mend them."""
+    for hard, advice in SENTENCES.items():
+        for match in re.finditer(hard, text):
+            around = text[match.start() : match.end() + 40].strip(".:;!? ")
+            if not any(path == place and around.startswith(words) for place, words in ALLOWED):
+                yield match.end() - 1, f"'{around}': {advice}"
+
+
+def stumbles(path: str, lines: list[tuple[int, str | None]], tables: list[dict[str, str]]) -> Iterator[str]:
+    """Returns the places to mend in the words and sentences of a file."""
+    for paragraph in paragraphs(lines):
+        text = paragraph.text()
+        found = [it for table in tables for it in hard_words(text, table)]
+        for place, advice in [*found, *hard_sentences(path, text)]:
+            yield f"{path}:{paragraph.line_at(place)}: {advice}"
+
+
+def wide(path: str, lines: list[tuple[int, str | None]]) -> Iterator[str]:
+    """Returns the lines and cells of a file that are too wide."""
+    for number, line in lines:
+        if line and line.startswith("|") and path.endswith(".md"):
+            cells = [cell for cell in line.strip("|").split(" | ") if len(cell) > CELL]
+            yield from (f"{path}:{number}: a cell of {len(cell)} characters" for cell in cells)
+        elif line and len(line) > LINE:
+            yield f"{path}:{number}: a line of {len(line)} characters"
+
+
+def main() -> int:
+    """Checks all documents, sources and scripts. Returns the exit status."""
+    os.chdir(ROOT)
+    documents = found_by("*.md", "*/*.md", "rust/*/*.md", "tests/**/*.md", "recipes/**/*.md")
+    sources = found_by("crates/*/src/**/*.rt", "crates/*/specs/**/*.antt", "crates/*/proofs/**/*.antt")
+    # The scripts that a user runs or imports.
+    helped = scripts("recipes/**/*", "python/**/*", "examples/*")
+    wrong: list[str] = []
+    for path in documents:
+        lines = list(of_document(path))
+        tables = [WORDS] if path == "CONTRIBUTING.md" else [WORDS, WORDS_OF_DOCUMENTS]
+        wrong += [*stumbles(path, lines, tables), *wide(path, lines)]
+    for path in sources:
+        lines = list(of_comments(path))
+        wrong += [*stumbles(path, lines, [WORDS]), *wide(path, lines)]
+    for path in helped:
+        lines = list(of_script(path))
+        wrong += [*stumbles(path, lines, []), *wide(path, lines)]
+    counts = f"{len(documents)} documents, comments of {len(sources)} files, help of {len(helped)} scripts"
+    return report("plain", wrong, f"{counts}, {len(wrong)} places to mend")
+
+
+if __name__ == "__main__":
+    sys.exit(main())
