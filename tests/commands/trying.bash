@@ -8,7 +8,7 @@ unset CDPATH
 # shellcheck source=tests/skipping.bash
 source "$(dirname "${BASH_SOURCE[0]}")/../skipping.bash"
 recipes=$root/recipes
-export FVTOOL=${FVTOOL:-$recipes/../crates/fv_tool/out/fv_tool} PYTHONDONTWRITEBYTECODE=1 LC_ALL=C
+export FVTOOL=${FVTOOL:-$root/crates/fv_tool/out/fv_tool} LC_ALL=C
 if ! command -v "$FVTOOL" > /dev/null; then
     echo "$FVTOOL is not there: ./fvtool < crates/fv_tool/stdin builds it" >&2
     exit 1
@@ -17,14 +17,9 @@ if [[ -n ${EDK2_BIN-} ]]; then EDK2_BIN=$(readlink -f "$EDK2_BIN"); fi
 room=$(mktemp -d)
 trap 'rm -rf "$room"' EXIT
 cd "$room"
-# The commands of the Python package fv, from the sources. The tests import the package, and images.py of this folder.
-# The folder itself is not in PYTHONPATH: Python would take the folder of a recipe, such as diffoscope, for a module of
-# that name which is not installed.
-mkdir modules
-ln -s "$tests/making.py" modules
-export PATH=$recipes/../python/bin:$PATH
-export PYTHONPATH=$recipes/../python:$room/modules${PYTHONPATH:+:$PYTHONPATH}
-python3 "$tests/making.py" images
+# The commands of the Python package fv, from the sources. Tests import the package, and tests.making.
+export PATH=$root/python/bin:$PATH
+python3 -m tests.making images
 tries=0
 failures=0
 skips=0
@@ -82,7 +77,7 @@ has() { # TEXT LINE
 
 # Returns whether the library is built, which some recipes use.
 has_library() {
-    export LIBFV=${LIBFV:-$recipes/../libfv/out/libfv.so.2}
+    export LIBFV=${LIBFV:-$root/libfv/out/libfv.so.2}
     if [[ ! -e $LIBFV ]]; then
         skipped libfv "which is not built (libfv/build builds it)"
         return 1
