@@ -35,7 +35,7 @@ from tests.checks import ROOT, read, report
 import rows
 
 # The number of rows in all files.
-ROWS = 1091
+ROWS = 1097
 # The files whose rows describe runs of a command.
 RUNS = ["normalise", "extract", "scan", "hobs", "list", "sums", "check", "cells", "unfix", "compare", "placed", "text"]
 # The files of the crate's tests that have rows.
