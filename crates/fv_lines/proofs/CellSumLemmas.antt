@@ -12,6 +12,7 @@ use Rattle.fv_base.specs.declared.flash.Polarity.{Polarity}
 use Rattle.fv_file.proofs.Laws.{cell_span}
 use Rattle.fv_file.specs.Words.{CellForm, Valid, Tiles, CellsWithin, cell_len}
 use Rattle.fv_head.specs.declared.extent.Extent.{Extent}
+use Rattle.fv_head.proofs.Laws.{first_lies}
 use Rattle.fv_tree.specs.Words.{BeginsTiled}
 use Rattle.fv_lines.specs.Words.{lengths_of, sums_of}
 use Rattle.fv_lines.specs.inner.LineRuns.{FitTogether, Fits, counted, sums_with}
@@ -72,3 +73,11 @@ fit_together input e cs b within =
       together =
           omega (arith, tiles_sum e.file_system e.polarity e.first cs (drop e.first volume) b.tiles, length-drop e.first volume, small);
     }
+
+-- the sums of the cells of a volume, with the bytes before its body, are its length
+pub add_up : (b : List ℕ) (e : Extent) (cs : List CellForm) → BeginsTiled e cs b → e.first + counted (sums_of cs) ≡ e.length
+add_up b e cs t =
+    let volume = take e.length b in
+    let long : length volume ≡ e.length = length-take-le e.length b t.begins.is_within in
+    omega (arith, counted_is cs, tiles_sum e.file_system e.polarity e.first cs (drop e.first volume) t.tiles, length-drop e.first volume, long,
+        (first_lies b t.head e t.begins).1)
