@@ -28,7 +28,7 @@ use Rattle.fv_canon.specs.Words.{AreStored, IsStored, IsData, AreStarts, placeme
 use Rattle.fv_canon.specs.Words.{placed_in_volume, used_size}
 use Rattle.fv_canon.specs.inner.ImageOf.{files_bytes}
 use Rattle.fv_canon.proofs.ImageParts.{stored_item}
-use Rattle.fv_canon.proofs.CurrentFileLaws.{names_in, names_of, NamesApart, current_apart, all_current, forms_unmarked, no_twins, TopLast, top_last}
+use Rattle.fv_canon.proofs.CurrentFileLaws.{stored_names, names_of, NamesApart, current_apart, all_current, forms_unmarked, no_twins, TopLast, top_last}
 use Rattle.fv_canon.proofs.CurrentFileLaws.{forms_top, form_names}
 use Rattle.fv_canon.proofs.CellLaws.{Storable, stored_head, length-pad_head}
 use Rattle.fv_canon.proofs.ReadLaws.{FileIsAccepted, body_read, current_read}
@@ -106,7 +106,7 @@ pub record FilesAgain (n : ℕ) (system : FileSystem) (files : FileMeanings) (fo
     (stored : List StoredFile) : Type 0 where
   pub storable : AllByRecursion (Storable system) stored
   pub items : map stored_item stored ≡ map placement_item (files_list files)
-  pub names : names_of stored ≡ names_in forms
+  pub names : names_of stored ≡ stored_names forms
   pub are : (p : Polarity) (total e : ℕ) (ss : List ℕ) → StartsFollow total e (map stored_item stored) ss
       → Pairwise (MeansFile (Stream n)) (forms_of p stored ss) (files_list files)
   pub meant : AllByRecursion (MeantBelow (suc n)) (volumes_in_files files)
@@ -245,7 +245,7 @@ volume_again n streams (Volume h files) b o small d (stored, starts, are, placed
     let a = known_of.again in
     let front = image_front h stored starts o k shows in
     let tiled = image_tiled h stored starts o k shows in
-    let apart : NamesApart (names_in (forms_of p stored starts)) =
+    let apart : NamesApart (stored_names (forms_of p stored starts)) =
     rw (form_names p h.length first stored starts k.follow ∙ a.names, d.current.files_are) (current_apart (files_in d.cells) d.current.no_twins) in
     let means : Denotes n o (Volume h files) =
     volume_of (Stream n) o (Volume h files) (extent_of h first) (forms_of p stored starts) front shows.length_is (record {

@@ -12,7 +12,7 @@ use Rattle.fv_base.specs.declared.flash.Polarity.{Polarity}
 use Rattle.fv_file.specs.Words.{CellForm, is_free, IsCell, Tiles, cell_len, IsFirstCellFault, unmarked, Unmarks}
 use Rattle.fv_file.specs.inner.CellVerdicts.{cell_verdict}
 use Rattle.fv_file.proofs.MarkedFileLemmas.{fixed_there, length-unmarked, drop-unmarked, used_without}
-use Rattle.fv_file.proofs.BodyLemmas.{Upto, upto_begins, stands_here, one_on, first_here, none_after, one_cell_fault}
+use Rattle.fv_file.proofs.BodyLemmas.{TiledUpto, upto_begins, stands_here, one_on, first_here, none_after, one_cell_fault}
 use Rattle.fv_file.proofs.CellFoundLemmas.{CellStandsAt}
 use Rattle.fv_base.specs.declared.fault.FaultKind.TheVariants as kinds
 
@@ -36,7 +36,7 @@ module _ (s : FileSystem) (p : Polarity) (first : ℕ) where
     pub marks : Unmarks s p first places old body
     pub same_length : length body ≡ length old
     pub cells : List CellForm
-    pub upto : Upto s p first body cells at
+    pub upto : TiledUpto s p first body cells at
 
   -- at the start, no mark is removed
   pub unmarked_begins : (body : List ℕ) → Unmarked body body 0

@@ -64,7 +64,7 @@ abbrev pub numbers_in : List Entry → List ℕ
 numbers_in es = map (λ (e : Entry). e.1) es
 
 -- the numbers are the numbers of the files with these names, in the order of an index of the names
-pub record IsOrder (names : List Guid) (numbers : List ℕ) : Type 0 where
+pub record IsNameOrder (names : List Guid) (numbers : List ℕ) : Type 0 where
   pub entries : List Entry
   pub index : IsIndex names entries
   pub are_numbers : numbers ≡ numbers_in entries

@@ -60,8 +60,8 @@ apart (h ∷ hs) f mid g after none = apart hs f mid g after none.1
 -- ---- two files with the same name are not both current
 
 -- whether none of the files replaces this file
-abbrev is_alive : List FileForm → FileForm → Bool
-is_alive fs f = not (list_any (replaced_by f) fs)
+abbrev is_current : List FileForm → FileForm → Bool
+is_current fs f = not (list_any (replaced_by f) fs)
 
 -- two current files at different places have different names
 pub names_differ : (fs before : List FileForm) (f : FileForm) (mid : List FileForm) (g : FileForm) (after : List FileForm) → NoTwins fs
@@ -71,13 +71,13 @@ names_differ fs before f mid g after none is forth back = grind (arith, common_s
   whole = before ++ (f ∷ (mid ++ (g ∷ after)))
 
   twin : is_twin f g ≡ false
-  twin = apart before f mid g after (rw is at (no_twins_kept (is_alive fs) fs none))
+  twin = apart before f mid g after (rw is at (no_twins_kept (is_current fs) fs none))
 
-  all : AllByRecursion (λ h. is_alive fs h ≡ true) whole
-  all = rw is at (recursion_from_All (λ h. is_alive fs h ≡ true) (filter (is_alive fs) fs) (filter_passes (is_alive fs) fs))
+  all : AllByRecursion (λ h. is_current fs h ≡ true) whole
+  all = rw is at (recursion_from_All (λ h. is_current fs h ≡ true) (filter (is_current fs) fs) (filter_passes (is_current fs) fs))
 
   -- a current file is not replaced by a current file
-  not_replaced : (h : FileForm) → is_alive fs h ≡ true → list_any (replaced_by h) whole ≡ false
+  not_replaced : (h : FileForm) → is_current fs h ≡ true → list_any (replaced_by h) whole ≡ false
   not_replaced h current = grind (arith, common_steps, none_kept, not-true) steps 150000
 
   over : replaced_by f g ≡ false
@@ -86,8 +86,8 @@ names_differ fs before f mid g after none is forth back = grind (arith, common_s
   under : replaced_by g f ≡ false
   under =
       (any_cut (replaced_by g) before f (mid ++ (g ∷ after))
-      (not_replaced g (in_middle (λ h. is_alive fs h ≡ true) mid g after
-      (after_middle (λ h. is_alive fs h ≡ true) before f (mid ++ (g ∷ after)) all)))).0
+      (not_replaced g (in_middle (λ h. is_current fs h ≡ true) mid g after
+      (after_middle (λ h. is_current fs h ≡ true) before f (mid ++ (g ∷ after)) all)))).0
 
 -- ---- the volume top file
 
