@@ -21,7 +21,7 @@ use Rattle.fv_head.proofs.Laws.{canonical_front, front_lies, length-canonical}
 use Rattle.fv_placement.specs.Words.{StartsFollow, IsFirstPlacement}
 use Rattle.fv_tree.specs.Words.{Meaning, Volume, FileMeanings, NoFiles, MoreFiles, FileMeaning, File, ContentMeaning, Plain, Sectioned, AreFilesOf}
 use Rattle.fv_tree.specs.Words.{files_list, files_of, head_of, content_len, StreamRelation, Pairwise, MeansContent, MeansFile, VolumeOver, Opens}
-use Rattle.fv_tree.specs.Words.{MeansSection, Stream, Denotes, FileForm, files_in, NoTwins, current_in, top_name, volumes_in_files, volumes_in_file}
+use Rattle.fv_tree.specs.Words.{MeansSection, Stream, Denotes, FileForm, files_in, NoStoredTwins, current_in, top_name, volumes_in_files, volumes_in_file}
 use Rattle.fv_tree.specs.Words.{volumes_in_content}
 use Rattle.fv_tree.proofs.Laws.{content_long, section_long, stream_long}
 use Rattle.fv_canon.specs.Words.{AreStored, IsStored, IsData, AreStarts, placement_item, ShowsPlaced, StoredFile, size_for, head_len_for, ext_pad}
@@ -252,7 +252,7 @@ volume_again n streams (Volume h files) b o small d (stored, starts, are, placed
       cells = tiled.cells;
       tiles = tiled.tiles;
       current = record {
-        no_twins = subst NoTwins (sym tiled.files_are) (no_twins (forms_of p stored starts) apart);
+        no_twins = subst NoStoredTwins (sym tiled.files_are) (no_twins (forms_of p stored starts) apart);
         files_are = sym (all_current (forms_of p stored starts) (forms_unmarked p stored starts)) ∙ ap current_in (sym tiled.files_are);
         top = forms_top p h.length first stored starts (subst TopLast (sym a.names) (top_last d.extent.length d.files d.current.top)) k.follow;
       };

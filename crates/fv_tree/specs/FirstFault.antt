@@ -17,7 +17,7 @@ use Rattle.fv_head.specs.declared.extent.Extent.{Extent}
 use Rattle.fv_section.specs.Words.{FrameFault, FrameForm, Splits, section_header_len}
 use Rattle.fv_tree.specs.Denotes.{group_kind, volume_kind, Opens, holds_sections, Pairwise, MeansFile, MeansSection}
 use Rattle.fv_tree.specs.Denotes.{Stream}
-use Rattle.fv_tree.specs.VolumeFiles.{FileForm, files_in, is_twin, NoTwins, current_in, is_top, end_of, TopAtEnd}
+use Rattle.fv_tree.specs.VolumeFiles.{FileForm, files_in, is_stored_twin, NoStoredTwins, current_in, is_top, end_of, TopAtEnd}
 
 -- ---- places
 
@@ -69,8 +69,8 @@ OneOf {A} {B} which R fault xs =
 -- two of the files preceding it are twins
 abbrev pub HasTwin : Which → FileForm → List FileForm → Type 0
 HasTwin which f fs =
-    (before : List FileForm) × (after : List FileForm) × (fs ≡ before ++ (f ∷ after)) × IfFirst which (NoTwins before)
-    × (list_any (is_twin f) before ≡ true)
+    (before : List FileForm) × (after : List FileForm) × (fs ≡ before ++ (f ∷ after)) × IfFirst which (NoStoredTwins before)
+    × (list_any (is_stored_twin f) before ≡ true)
 
 -- f is a volume top file that is not the last of the files, or does not end where the volume ends
 abbrev pub TopElsewhere : ℕ → FileForm → List FileForm → Type 0
@@ -83,7 +83,7 @@ TopElsewhere length f fs =
 abbrev pub NamesFault : Which → ℕ → List FileForm → Fault → Type 0
 NamesFault which length fs e =
     ((f : FileForm) × HasTwin which f fs × (e ≡ outer_fault kinds.DuplicateName f.offset))
-    ⊎ (IfFirst which (NoTwins fs)
+    ⊎ (IfFirst which (NoStoredTwins fs)
     × (f : FileForm) × TopElsewhere length f (current_in fs) × (e ≡ outer_fault kinds.TopFile f.offset))
 
 -- e is a fault of a cell in a volume's body, or a fault of the files in the cells (`NamesFault`). Faults in the
@@ -111,7 +111,7 @@ abbrev pub BodyFault : Which → ℕ → Faulty → Extent → Faulty
 BodyFault which n in_stream x e volume at =
     Moved at (StoredFault which x volume) e
     ⊎ ((cells : List CellForm) × Tiles x.file_system x.polarity x.first cells (drop x.first volume)
-    × IfFirst which (NoTwins (files_in cells) × TopAtEnd x.length (current_in (files_in cells)))
+    × IfFirst which (NoStoredTwins (files_in cells) × TopAtEnd x.length (current_in (files_in cells)))
     × OneOf which (MeansFile (Stream n)) (λ f. FileFault in_stream e f at) (current_in (files_in cells)))
 
 -- a fault of a volume: a check of its header fails, or the bytes begin with a volume header and the body has a fault
