@@ -152,7 +152,7 @@ module _ (s : FileSystem) (p : Polarity) (first : ℕ) where
 pub cell_long : (s : FileSystem) (p : Polarity) (at : ℕ) (r : List ℕ) (c : CellForm) → cell_verdict s p at r ≡ Ok c → 24 ≤ length r
 cell_long s p at r c is = grind (arith, common_steps, ltb-false)
 
--- if n is the length of each cell that begins the bytes and is not free, n is the length of the cell that begins there
+-- c is a cell at the start of the bytes r, and is not free. If each such cell has the length n, c has the length n
 pub stride_len : (s : FileSystem) (p : Polarity) (at n : ℕ) (r : List ℕ) (c : CellForm) → CellStandsAt s p at c r
     → ((x behind : List ℕ) → r ≡ x ++ behind → IsCell s p c x → is_free c ≡ false → n ≡ length x) → n ≡ cell_len c
 stride_len s p at n r c stands strides =

@@ -44,8 +44,8 @@ body_at at f = record { offset = at.offset + body_place f; depth = at.depth + 1 
 abbrev pub data_at : Place → FileForm → Place
 data_at at f = record { offset = at.offset + data_place f; depth = at.depth }
 
--- a predicate on a fault and on bytes that begin at a place; and a predicate on a fault and on a frame of a stream that
--- begins at a place
+-- the type of statements about a fault, some bytes, and the place where the bytes begin (`Faulty`); and the type of
+-- statements about a fault, a frame, and the place where the frame's stream begins (`FrameFaulty`)
 abbrev pub Faulty : Type 1
 Faulty = Fault → List ℕ → Place → Type 0
 
@@ -78,8 +78,9 @@ TopElsewhere length f fs =
     (before : List FileForm) × (after : List FileForm) × (fs ≡ before ++ (f ∷ after)) × (is_top f ≡ true)
     × (after ≡ [] → end_of f ≡ length → ⊥)
 
--- a fault of the valid files in a volume of this length: at the later of two twins; or at a volume top file that is not
--- at the end, which is the first fault only if there are no twins
+-- e is a fault of the names of the valid files in a volume of this length. Either e is DuplicateName, at a file that has
+-- a twin among the files preceding it; or e is TopFile, at a volume top file that is not at the end. If `which` is
+-- `First`, e is TopFile only if no two of the files are twins
 abbrev pub NamesFault : Which → ℕ → List FileForm → Fault → Type 0
 NamesFault which length fs e =
     ((f : FileForm) × HasTwin which f fs × (e ≡ outer_fault kinds.DuplicateName f.offset))
