@@ -12,7 +12,7 @@ use Rattle.fv_base.specs.declared.flash.Polarity.{Polarity}
 use Rattle.fv_file.specs.Words.{CellForm, is_free, IsCell, Tiles, cell_len, IsFirstCellFault, unmarked, Unmarks}
 use Rattle.fv_file.specs.inner.CellVerdicts.{cell_verdict}
 use Rattle.fv_file.proofs.MarkedFileLemmas.{fixed_there, length-unmarked, drop-unmarked, used_without}
-use Rattle.fv_file.proofs.BodyLemmas.{Upto, upto_begins, stands_here, one_on, first_here, none_after, one_cell_fault}
+use Rattle.fv_file.proofs.BodyLemmas.{TiledUpto, upto_begins, stands_here, one_on, first_here, none_after, one_cell_fault}
 use Rattle.fv_file.proofs.CellFoundLemmas.{CellStandsAt}
 use Rattle.fv_base.specs.declared.fault.FaultKind.TheVariants as kinds
 
@@ -36,7 +36,7 @@ module _ (s : FileSystem) (p : Polarity) (first : ℕ) where
     pub marks : Unmarks s p first places old body
     pub same_length : length body ≡ length old
     pub cells : List CellForm
-    pub upto : Upto s p first body cells at
+    pub upto : TiledUpto s p first body cells at
 
   -- at the start, no mark is removed
   pub unmarked_begins : (body : List ℕ) → Unmarked body body 0
@@ -152,7 +152,7 @@ module _ (s : FileSystem) (p : Polarity) (first : ℕ) where
 pub cell_long : (s : FileSystem) (p : Polarity) (at : ℕ) (r : List ℕ) (c : CellForm) → cell_verdict s p at r ≡ Ok c → 24 ≤ length r
 cell_long s p at r c is = grind (arith, common_steps, ltb-false)
 
--- if n is the length of each cell that begins the bytes and is not free, n is the length of the cell that begins there
+-- c is a cell at the start of the bytes r, and is not free. If each such cell has the length n, c has the length n
 pub stride_len : (s : FileSystem) (p : Polarity) (at n : ℕ) (r : List ℕ) (c : CellForm) → CellStandsAt s p at c r
     → ((x behind : List ℕ) → r ≡ x ++ behind → IsCell s p c x → is_free c ≡ false → n ≡ length x) → n ≡ cell_len c
 stride_len s p at n r c stands strides =

@@ -16,7 +16,7 @@ use Rattle.std.proofs.lemmas.List.Sorted.{All-permutation, Contains-permutation,
 use Rattle.std.proofs.lemmas.List.Sums.{position_or_len_is}
 use Rattle.std.proofs.lemmas.Map.Keys.{apart_from_distinct, IsDistinct-IsPermutation, IsDistinct-from_apart}
 use Rattle.fv_base.specs.declared.guid.Guid.{Guid}
-use Rattle.fv_names.specs.Words.{Entry, Halves, IsIndex, IsName, entry_cmp, halves_cmp, halves_of, numbered, NamedFile, is_name, IsOrder}
+use Rattle.fv_names.specs.Words.{Entry, Halves, IsIndex, IsName, entry_cmp, halves_cmp, halves_of, numbered, NamedFile, is_name, IsNameOrder}
 use Rattle.std.specs.List.Sorted.{IsSorted, IsPartitionedBy, IsPartitionPoint}
 use Rattle.fv_names.specs.inner.NameOrders.{IsShared}
 use Rattle.fv_names.proofs.EntryOrderLaws.{before_too, less_orders, name_upto, neither_before, not_before_itself, not_before_too, numbers_rise}
@@ -226,7 +226,7 @@ module _ (names : List Guid) (es : List Entry) (index : IsIndex names es) (key :
 
 -- ---- an order of names
 
-module _ (names : List Guid) (numbers : List ℕ) (order : IsOrder names numbers) (n p : ℕ) (l : p < length numbers) (is : n ≡ get_or numbers p n) where
+module _ (names : List Guid) (numbers : List ℕ) (order : IsNameOrder names numbers) (n p : ℕ) (l : p < length numbers) (is : n ≡ get_or numbers p n) where
   abbrev number : Entry → ℕ
   number e = e.1
 

@@ -27,7 +27,7 @@ none_at : (test : NamedFile → Bool) (fs : List NamedFile) (k : ℕ) (d : Named
     → test (get_or fs k d) ≡ false
 none_at test fs k d h l = grind (arith, common_steps, list_any_at)
 
-twins_apart : (fs : List NamedFile) (i j : ℕ) (d : NamedFile) → NoTwins fs → i < j → j < length fs
+twins_apart : (fs : List NamedFile) (i j : ℕ) (d : NamedFile) → NoTwins is_twin fs → i < j → j < length fs
     → is_twin (get_or fs i d) (get_or fs j d) ≡ false
 twins_apart [] i j d none p q = absurd (omega (arith, q))
 twins_apart (f ∷ fs) zero zero d none p q = absurd (omega (arith, p))
@@ -36,7 +36,7 @@ twins_apart (f ∷ fs) (suc i) zero d none p q = absurd (omega (arith, p))
 twins_apart (f ∷ fs) (suc i) (suc j) d none p q = twins_apart fs i j d none.1 (omega (arith, p)) (omega (arith, q))
 
 no_twins_from : (fs : List NamedFile) (d : NamedFile)
-    → ((i j : ℕ) → i < j → j < length fs → is_twin (get_or fs i d) (get_or fs j d) ≡ false) → NoTwins fs
+    → ((i j : ℕ) → i < j → j < length fs → is_twin (get_or fs i d) (get_or fs j d) ≡ false) → NoTwins is_twin fs
 no_twins_from [] d h = tt
 no_twins_from (f ∷ fs) d h = (
   list_any_none (is_twin f) fs (All-from_get_or (λ g. is_twin f g ≡ false) fs d (λ k l. h 0 (suc k) (omega arith) (omega (arith, l)))),
@@ -157,7 +157,7 @@ module _ (fs : List NamedFile) (es : List Entry) (index : IsIndex (names_in fs) 
   -- let n be at most the number of each entry that has a twin among the two entries before it: then the first n files
   -- have no twins
   pub first_none : (n : ℕ) → n ≤ length fs
-      → ((r : ℕ) → 0 < r → r < length es → IsTwinAt fs d es e r → n ≤ (get_or es r e).1) → NoTwins (take n fs)
+      → ((r : ℕ) → 0 < r → r < length es → IsTwinAt fs d es e r → n ≤ (get_or es r e).1) → NoTwins is_twin (take n fs)
   first_none n most least = no_twins_from (take n fs) d (λ i j p q.
       let low : j < n = omega (arith, q, length-take-le n fs most) in
       ap (λ f. is_twin f (get_or (take n fs) j d)) (get_or-take n fs i d (omega (arith, p, low)))
@@ -192,7 +192,7 @@ module _ (fs : List NamedFile) (es : List Entry) (index : IsIndex (names_in fs) 
       Decides-and (same_name (file p) (file q)) (m && n) (one_name p q k l) (Decides-and m n ((λ h. h), (λ h. h)) ((λ h. h), (λ h. h)))
 
   -- if two files have the same name and are not twins, the marked one is replaced
-  beside : (p q : ℕ) → p < length es → q < length es → (p < q) ⊎ (q < p) → NoTwins fs → (at q).0 ≡ (at p).0
+  beside : (p q : ℕ) → p < length es → q < length es → (p < q) ⊎ (q < p) → NoTwins is_twin fs → (at q).0 ≡ (at p).0
       → (file p).marked ≡ true → list_any (replaced_by (file p)) fs ≡ true
   beside p q k l order none same marked =
       list_any_at (replaced_by (file p)) fs (at q).1 d (number_within q l)
@@ -232,7 +232,7 @@ module _ (fs : List NamedFile) (es : List Entry) (index : IsIndex (names_in fs) 
           absurd (itself (file p).marked marked (ap (λ (k : ℕ). not (file k).marked) (sym here) ∙ plain))
 
   -- if two entries have the name of a marked file, and there are no twins, the file is replaced
-  shared_replaced : NoTwins fs → (p : ℕ) → p < length es → (file p).marked ≡ true → IsShared es e (at p).0
+  shared_replaced : NoTwins is_twin fs → (p : ℕ) → p < length es → (file p).marked ≡ true → IsShared es e (at p).0
       → list_any (replaced_by (file p)) fs ≡ true
   shared_replaced none p l marked (i, j, lt, m, first, second) = go (cases_lt i p) where
     go : (i < p) ⊎ (p ≤ i) → list_any (replaced_by (file p)) fs ≡ true
@@ -240,7 +240,7 @@ module _ (fs : List NamedFile) (es : List Entry) (index : IsIndex (names_in fs) 
     go (inr most) = beside p j l m (inl (omega (arith, most, lt))) none second marked
 
   -- so a marked file is replaced exactly if two entries have its name
-  pub update_shares : NoTwins fs → (f : NamedFile) (t : Bool) → Contains fs f → f.marked ≡ true
+  pub update_shares : NoTwins is_twin fs → (f : NamedFile) (t : Bool) → Contains fs f → f.marked ≡ true
       → (t ≡ true → IsShared es e (halves_of f.name)) → (IsShared es e (halves_of f.name) → t ≡ true) → t ≡ list_any (replaced_by f) fs
   update_shares none f t (n, l, is) marked shown all = same_from_decides t (list_any (replaced_by f) fs) (shown, all) (back, forth) where
     r : (p : ℕ) × (p < length es) × ((get_or es p e).1 ≡ n)
@@ -268,9 +268,9 @@ module _ (fs : List NamedFile) (es : List Entry) (index : IsIndex (names_in fs) 
     no_twin_at r above l (inr h) = apart e r above l (between (names_in fs) es index d.name e (r - 2) (r - 1) r (omega arith) (omega arith) l h.0)
 
     -- if no entry shares its name, there are no twins
-    pub apart_twins : NoTwins fs
+    pub apart_twins : NoTwins is_twin fs
     apart_twins =
-        subst NoTwins (take_all (length fs) fs (omega arith)) (first_none (length fs) (omega arith) (λ r above l twin.
+        subst (NoTwins is_twin) (take_all (length fs) fs (omega arith)) (first_none (length fs) (omega arith) (λ r above l twin.
         absurd (no_twin_at r above l twin)))
 
     alone : (p : ℕ) → IsShared es e (at p).0 → ⊥

@@ -5,7 +5,7 @@ ghost use Rattle.std.specs.List.{position};
 ghost use Rattle.std.specs.Ordering.{is_lt};
 ghost use Rattle.fv_base.specs.Words.{out_of_memory};
 ghost use Rattle.fv_names.specs.NamedFiles.{is_name};
-ghost use Rattle.fv_names.specs.NameIndexes.{Entry, Halves, IsIndex, IsOrder, entries_of, halves_cmp, numbers_in};
+ghost use Rattle.fv_names.specs.NameIndexes.{Entry, Halves, IsIndex, IsNameOrder, entries_of, halves_cmp, numbers_in};
 ghost use Rattle.fv_names.specs.NameIndexes.{numbers_of};
 
 use crate::name_index::{NameIndex, halves};
@@ -51,9 +51,9 @@ impl NameOrder {
     // Returns the name of the file at a place, as two numbers. Places are counted from 0 in the
     // order of the names.
     fn halves_at<F: WithName>(&self, files: &[F], place: usize) -> (u64, u64)
-        requires order { IsOrder (map F.name_of files.now) (numbers_of self.now) }
+        requires order { IsNameOrder (map F.name_of files.now) (numbers_of self.now) }
         requires inside { place < length (numbers_of self.now) }
-        ensures { (order : IsOrder (map F.name_of files.now) (numbers_of self.now)) (e : Entry)
+        ensures { (order : IsNameOrder (map F.name_of files.now) (numbers_of self.now)) (e : Entry)
             → result ≡ (get_or order.entries place e).0 }
     {
         let number = self.numbers[place];
@@ -63,7 +63,7 @@ impl NameOrder {
     /// Returns the number of the first file with this name, or None if no file has it. The order
     /// must be the order of the names of these files. Takes no memory.
     pub fn get<F: WithName>(&self, files: &[F], name: &Guid) -> Option<u32>
-        requires { IsOrder (map F.name_of files.now) (numbers_of self.now) }
+        requires { IsNameOrder (map F.name_of files.now) (numbers_of self.now) }
         ensures { result ≡ position (is_name name.now) (map F.name_of files.now) }
     {
         let key = halves(*name);

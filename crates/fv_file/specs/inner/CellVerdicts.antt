@@ -89,11 +89,11 @@ cell_verdict system polarity p r =
     else state_verdict (state_of polarity (state_at r)) system polarity p r
 
 -- the header at the start of the bytes, if they show a state (the case without a state is not used)
-abbrev pub head_of : Option FileState → List ℕ → FileHead
-head_of None b = head_in states.Free b
-head_of (Some state) b = head_in state b
+abbrev pub shown_head : Option FileState → List ℕ → FileHead
+shown_head None b = head_in states.Free b
+shown_head (Some state) b = head_in state b
 
 -- the header of the valid file or pad that the bytes begin with, or the first fault
 abbrev pub verify_verdict : FileSystem → Polarity → List ℕ → Result FileHead Fault
 verify_verdict system polarity b =
-    verdict_by (first_fault (verify_checks system polarity b)) (head_of (state_of polarity (state_at b)) b)
+    verdict_by (first_fault (verify_checks system polarity b)) (shown_head (state_of polarity (state_at b)) b)

@@ -10,12 +10,12 @@ use Rattle.fv_names.proofs.name_index.NameIndex.first_twin.Goals.{else-number-fi
 use Rattle.fv_names.proofs.name_index.NameIndex.first_twin.Goals as goal
 
 -- n is at most the number of each entry that precedes the place and has a twin among the two entries before it
-abbrev IsLeast : List NamedFile → List Entry → ℕ → ℕ → Type 0
-IsLeast fs es place n =
+abbrev IsLeastTwin : List NamedFile → List Entry → ℕ → ℕ → Type 0
+IsLeastTwin fs es place n =
     (d : NamedFile) (e : Entry) (r : ℕ) → 0 < r → r < place → IsTwinAt fs d es e r → n ≤ (get_or es r e).1
 
-least_more : (fs : List NamedFile) (es : List Entry) (place n m : ℕ) → IsLeast fs es place n → m ≤ n
-    → ((d : NamedFile) (e : Entry) → IsTwinAt fs d es e place → m ≤ (get_or es place e).1) → IsLeast fs es (place + 1) m
+least_more : (fs : List NamedFile) (es : List Entry) (place n m : ℕ) → IsLeastTwin fs es place n → m ≤ n
+    → ((d : NamedFile) (e : Entry) → IsTwinAt fs d es e place → m ≤ (get_or es place e).1) → IsLeastTwin fs es (place + 1) m
 least_more fs es place n m old le here d e r above below twin = go (cases_lt r place) where
   go : (r < place) ⊎ (place ≤ r) → m ≤ (get_or es r e).1
   go (inl lt) = omega (arith, old d e r above lt twin, le)
