@@ -4,15 +4,13 @@
 -- 3. So the first entry with a name, if there is one, is the entry of the first file with this name (`found_there`,
 --    `found_none`).
 -- 4. A search by halves ends at the place of that entry (`Searched`).
-use Rattle.std.proofs.Common.{◌≡◌, ◌≤◌, ◌<◌, ◌⊎◌, ℕ, ◌+◌, [], ◌==◌, List, length, get_or, map, Bool, true, false, refl, sym, ap, ◌∙◌, subst, arith}
+use Rattle.std.proofs.Common.{◌≡◌, ◌≤◌, ◌<◌, ◌⊎◌, ℕ, ◌+◌, [], ◌==◌, List, length, get_or, Bool, true, false, refl, sym, ap, ◌∙◌, subst, arith}
 use Rattle.std.proofs.Common.{inl, inr, Some, None, lt-ltb, le-ltb}
-use Rattle.fv_base.proofs.Laws.{common_steps, Decides, All, Contains, position, position_or_len, range_with_len, is_lt, cases_lt, Decides-eqb}
-use Rattle.fv_base.proofs.Laws.{not_from_Decides, get_or-map, get_or_default, length-map, All-get_or, All-map, at_index, not_equal, first_only}
+use Rattle.fv_base.proofs.Laws.{Decides, position, position_or_len, is_lt, cases_lt, Decides-eqb}
+use Rattle.fv_base.proofs.Laws.{not_from_Decides, get_or-map, get_or_default, length-map, All-get_or, at_index, not_equal, first_only}
 use Rattle.std.specs.List.{IsDistinct}
 use Rattle.std.proofs.lemmas.Cmp.{nat_eq_equiv}
-use Rattle.std.proofs.lemmas.List.Elements.{All-same}
-use Rattle.std.proofs.lemmas.List.FromFn.{get_or-map-range_with_len, get_or-range_with_len, length-map-range_with_len, length-range_with_len}
-use Rattle.std.proofs.lemmas.List.Sorted.{All-permutation, Contains-permutation, IsPermutation-map, sorted_far}
+use Rattle.std.proofs.lemmas.List.Sorted.{All-permutation, Contains-permutation, sorted_far}
 use Rattle.std.proofs.lemmas.List.Sums.{position_or_len_is}
 use Rattle.std.proofs.lemmas.Map.Keys.{apart_from_distinct, IsDistinct-IsPermutation, IsDistinct-from_apart}
 use Rattle.fv_base.specs.declared.guid.Guid.{Guid}
@@ -21,7 +19,7 @@ use Rattle.std.specs.List.Sorted.{IsSorted, IsPartitionedBy, IsPartitionPoint}
 use Rattle.fv_names.specs.inner.NameOrders.{IsShared}
 use Rattle.fv_names.proofs.EntryOrderLaws.{before_too, less_orders, name_upto, neither_before, not_before_itself, not_before_too, numbers_rise}
 use Rattle.fv_names.proofs.EntryOrderLaws.{one_name_between}
-use Rattle.fv_names.proofs.NumberedLaws.{names_decide, numbered_are, numbers_are}
+use Rattle.fv_names.proofs.NumberedLaws.{names_decide, numbered_at, numbered_length}
 
 -- the default file, which `get_or` returns for a place past the end of the files; `no_entry` is the default entry
 abbrev pub no_named : NamedFile
@@ -29,17 +27,6 @@ no_named = record { name = record { bytes = [] }; marked = false }
 
 abbrev pub no_entry : Entry
 no_entry = ((0, 0), 0)
-
--- ---- the numbers from 0 on
-
-pub below : (n : ℕ) → All (λ m. m < n) (range_with_len 0 n)
-below n k d l = grind (arith, common_steps, length-range_with_len, get_or-range_with_len)
-
--- the numbers from 0 on are all different
-all_differ : (n : ℕ) → IsDistinct (λ (a b : ℕ). a == b) (range_with_len 0 n)
-all_differ n = IsDistinct-from_apart (λ (a b : ℕ). a == b) (range_with_len 0 n) (λ i j d lt l.
-    let inside : j < n = omega (arith, l, length-range_with_len 0 n) in
-    not_equal _ _ (λ same. omega (arith, get_or-range_with_len 0 n i d (omega (arith, lt, inside)), get_or-range_with_len 0 n j d inside, same, lt)))
 
 -- ---- entries and names
 
@@ -50,9 +37,6 @@ module _ (names : List Guid) (es : List Entry) (index : IsIndex names es) (g : G
   abbrev entry_of : ℕ → Entry
   entry_of n = (halves_of (get_or names n g), n)
 
-  entries_are : numbered 0 names ≡ map entry_of (range_with_len 0 (length names))
-  entries_are = numbered_are names entry_of g (λ n l. refl)
-
   -- the number of an entry is the number of a name, and the entry has the halves of this name
   abbrev IsOfName : Entry → Type 0
   IsOfName x = (x.1 < length names) × (x.0 ≡ halves_of (get_or names x.1 g))
@@ -60,34 +44,31 @@ module _ (names : List Guid) (es : List Entry) (index : IsIndex names es) (g : G
   pub of_name : (p : ℕ) → p < length es
       → ((get_or es p e).1 < length names) × ((get_or es p e).0 ≡ halves_of (get_or names (get_or es p e).1 g))
   of_name p l =
-      let count : ℕ = length names in
       All-get_or IsOfName es p e l
-      (All-permutation IsOfName (numbered 0 names) es index.all
-      (All-same IsOfName (numbered 0 names) (map entry_of (range_with_len 0 count)) entries_are
-      (All-map IsOfName entry_of (range_with_len 0 count) (λ k d m. (below count k d m, refl)))))
+      (All-permutation IsOfName (numbered 0 names) es index.all (λ k d m.
+      let inside : k < length names = omega (arith, m, numbered_length 0 names) in
+      rw (numbered_at names k g d inside) (inside, refl)))
 
   -- each name has an entry
   pub place_of : (n : ℕ) → n < length names
       → (p : ℕ) × (p < length es) × (get_or es p e ≡ (halves_of (get_or names n g), n))
   place_of n l =
       let x : Entry = entry_of n in
-      let count : ℕ = length names in
-      let z : 0 + n ≡ n = omega arith in
-      let has : Contains (map entry_of (range_with_len 0 count)) x =
-      (n, omega (arith, l, length-map-range_with_len entry_of 0 count), get_or-map-range_with_len entry_of 0 count n n x l z) in
-      let r = Contains-permutation (numbered 0 names) es x index.all (subst (λ xs. Contains xs x) (sym entries_are) has) in
+      let r = Contains-permutation (numbered 0 names) es x index.all (n, omega (arith, l, numbered_length 0 names), numbered_at names n g x l) in
       (r.0, r.1, get_or_default es r.0 e x r.1 ∙ r.2)
 
   -- two entries have different numbers
+  abbrev same_number : Entry → Entry → Bool
+  same_number a b = a.1 == b.1
+
   pub apart : (p q : ℕ) → p < q → q < length es → (get_or es p e).1 ≡ (get_or es q e).1 → ⊥
   apart p q lt l same =
-      let number : Entry → ℕ = λ x. x.1 in
-      let differ : IsDistinct (λ (a b : ℕ). a == b) (map number es) = IsDistinct-IsPermutation (λ (a b : ℕ). a == b) nat_eq_equiv.symm _ _
-      (IsPermutation-map number _ es index.all) (subst (IsDistinct (λ (a b : ℕ). a == b)) (sym (numbers_are 0 names)) (all_differ (length names))) in
-      not_from_Decides (get_or (map number es) p e.1 == get_or (map number es) q e.1) (Decides-eqb (get_or (map number es) p e.1)
-      (get_or (map number es) q e.1))
-      (apart_from_distinct (λ (a b : ℕ). a == b) (map number es) p q e.1 differ lt (omega (arith, l, length-map es number)))
-      (get_or-map number es p e e.1 (omega (arith, lt, l)) ∙ same ∙ sym (get_or-map number es q e e.1 l))
+      let differ : IsDistinct same_number (numbered 0 names) = IsDistinct-from_apart same_number (numbered 0 names) (λ i j d less m.
+      let inside : j < length names = omega (arith, m, numbered_length 0 names) in
+      rw (numbered_at names i g d (omega (arith, inside, less)), numbered_at names j g d inside) (not_equal i j (λ same. omega (arith, same, less)))) in
+      not_from_Decides _ (Decides-eqb (get_or es p e).1 (get_or es q e).1)
+      (apart_from_distinct same_number es p q e
+      (IsDistinct-IsPermutation same_number (λ a b. nat_eq_equiv.symm a.1 b.1) (numbered 0 names) es index.all differ) lt l) same
 
   pub in_order : (p q : ℕ) → p ≤ q → q < length es → is_lt (entry_cmp (get_or es q e) (get_or es p e)) ≡ false
   in_order p q le l = sorted_far (λ (a b : Entry). is_lt (entry_cmp a b)) less_orders es index.ordered p q e le l
