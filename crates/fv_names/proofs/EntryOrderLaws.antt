@@ -43,9 +43,6 @@ name_upto a b h = grind (arith, common_steps)
 pub before_too : (a b key : Halves) → is_lt (halves_cmp b a) ≡ false → is_lt (halves_cmp b key) ≡ true → is_lt (halves_cmp a key) ≡ true
 before_too a b key order less = grind (arith, common_steps)
 
-pub not_before_too : (a b key : Halves) → is_lt (halves_cmp b a) ≡ false → is_lt (halves_cmp a key) ≡ false → is_lt (halves_cmp b key) ≡ false
-not_before_too a b key order least = grind (arith, common_steps)
-
 -- a name does not precede itself, and of two names one precedes the other, or they are the same
 pub not_before_itself : (a b : Halves) → a ≡ b → is_lt (halves_cmp a b) ≡ true → ⊥
 not_before_itself a b same less = grind (arith, common_steps)
