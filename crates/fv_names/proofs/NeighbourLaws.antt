@@ -10,7 +10,8 @@
 use Rattle.std.proofs.Common.{◌≡◌, ◌≤◌, ◌<◌, ◌⊎◌, ℕ, ◌+◌, ◌-◌, [], ◌∷◌, ◌&&◌, zero, suc, List, length, take, get_or, map, Bool, true, false, refl}
 use Rattle.std.proofs.Common.{sym, ap, ◌∙◌, subst, arith, inl, inr, not, get_or-take, length-take-le, take_all}
 use Rattle.fv_base.proofs.Laws.{common_steps, Decides, booleans_Decides, AllByRecursion, list_any, cases_lt, not_from_Decides, get_or_default}
-use Rattle.fv_base.proofs.Laws.{get_or-map, length-map, recursion_from_All, Any-from_list_any, list_any_at, at_index, or_both}
+use Rattle.fv_base.proofs.Laws.{get_or-map, length-map, recursion_from_All, Any-from_list_any, list_any_at, at_index}
+use Rattle.std.proofs.lemmas.Bool.{false_from_ne_true}
 use Rattle.std.proofs.lemmas.Bool.Decides.{Decides-and, same_from_decides}
 use Rattle.std.specs.List.{Contains}
 use Rattle.std.proofs.lemmas.List.Elements.{All-from_get_or}
@@ -49,11 +50,7 @@ two_same a b c = grind (arith, common_steps) steps 150000
 
 -- a file that is not marked is not replaced
 pub unmarked_kept : (f : NamedFile) (fs : List NamedFile) → f.marked ≡ false → list_any (replaced_by f) fs ≡ false
-unmarked_kept f [] off = refl
-unmarked_kept f (g ∷ gs) off = or_both (replaced_by f g) (list_any (replaced_by f) gs) (here (same_name f g)) (unmarked_kept f gs off) where
-  here : (same : Bool) → (same && (f.marked && not g.marked)) ≡ false
-  here true = rw off refl
-  here false = refl
+unmarked_kept f fs off = list_any_none (replaced_by f) fs (λ k d l. grind (arith, common_steps))
 
 -- ---- the files of an index
 
@@ -119,68 +116,45 @@ module _ (fs : List NamedFile) (es : List Entry) (index : IsIndex (names_in fs) 
   twin_before q above l (inl h) = twin_since (q - 1) q (omega (arith, above)) l h
   twin_before q above l (inr h) = twin_since (q - 2) q (omega (arith, above)) l h
 
-  -- if an entry has a twin before it, this entry or the preceding one has a twin among the two entries before it
-  near : (p q : ℕ) → p < q → q < length es → AreTwins fs d (at p) (at q)
-      → (r : ℕ) × (0 < r) × (r < length es) × ((at r).1 ≤ (at q).1) × IsTwinAt fs d es e r
-  near p q lt l h = go (cases_lt (p + 1) q) where
-    mark : ℕ → Bool
-    mark r = mark_at fs d (at r).1
+  -- let n be at most the number of each entry that has a twin among the two entries before it
+  module _ (n : ℕ) (least : (r : ℕ) → 0 < r → r < length es → IsTwinAt fs d es e r → n ≤ (get_or es r e).1) where
+    -- then n is at most the number of each entry that has a twin before it: this entry or the preceding one has a twin
+    -- among the two entries before it
+    near : (p q : ℕ) → p < q → q < length es → AreTwins fs d (at p) (at q) → (p + 1 < q) ⊎ (q ≤ p + 1) → n ≤ (at q).1
+    near p q lt l h (inr last) =
+        let one : p ≡ q - 1 = omega (arith, lt, last) in least q (omega (arith, lt)) l (inl (subst (λ (k : ℕ). AreTwins fs d (at k) (at q)) one h))
+    near p q lt l h (inl more) =
+        let named : (r : ℕ) → p ≤ r → r ≤ q → (at r).0 ≡ (at q).0 = λ r low high. between (names_in fs) es index d.name e p r q low high l h.0 in
+        let one : (at (q - 1)).0 ≡ (at q).0 = named (q - 1) (omega (arith, lt)) (omega arith) in
+        let two : (at (q - 2)).0 ≡ (at q).0 = named (q - 2) (omega (arith, more)) (omega arith) in
+        elim (two_same (mark_at fs d (at (q - 2)).1) (mark_at fs d (at (q - 1)).1) (mark_at fs d (at q).1)) [
+          | inl same ↦
+              let back : q - 2 ≡ q - 1 - 1 = omega arith in
+              let twin : AreTwins fs d (at (q - 1 - 1)) (at (q - 1)) =
+              subst (λ (k : ℕ). AreTwins fs d (at k) (at (q - 1))) back (two ∙ sym one, same) in
+              omega (
+                arith,
+                least (q - 1) (omega (arith, more)) (omega (arith, l)) (inl twin),
+                upward (names_in fs) es index d.name e (q - 1) q (omega arith) l one,
+              )
+          | inr other ↦ elim other [
+            | inl same ↦ least q (omega (arith, lt)) l (inl (one, same))
+            | inr same ↦ least q (omega (arith, lt)) l (inr (two, same))
+          ]
+        ]
 
-    named : (r : ℕ) → p ≤ r → r ≤ q → (at r).0 ≡ (at q).0
-    named r low high = between (names_in fs) es index d.name e p r q low high l h.0
-
-    Near : Type 0
-    Near = (r : ℕ) × (0 < r) × (r < length es) × ((at r).1 ≤ (at q).1) × IsTwinAt fs d es e r
-
-    here : IsTwinAt fs d es e q → Near
-    here twin = (q, omega (arith, lt), l, omega arith, twin)
-
-    three : p + 1 < q → (mark (q - 2) ≡ mark (q - 1)) ⊎ ((mark (q - 1) ≡ mark q) ⊎ (mark (q - 2) ≡ mark q)) → Near
-    three more (inl same) =
-        let two : q - 2 ≡ q - 1 - 1 = omega (arith, more) in
-        let before : (at (q - 1)).0 ≡ (at q).0 = named (q - 1) (omega (arith, more)) (omega arith) in
-        let twin : AreTwins fs d (at (q - 2)) (at (q - 1)) = (named (q - 2) (omega (arith, more)) (omega arith) ∙ sym before, same) in (
-          q - 1,
-          omega (arith, more),
-          omega (arith, l),
-          upward (names_in fs) es index d.name e (q - 1) q (omega arith) l before,
-          inl (subst (λ (k : ℕ). AreTwins fs d (at k) (at (q - 1))) two twin),
-        )
-    three more (inr (inl same)) = here (inl (named (q - 1) (omega (arith, more)) (omega arith), same))
-    three more (inr (inr same)) = here (inr (named (q - 2) (omega (arith, more)) (omega arith), same))
-
-    go : (p + 1 < q) ⊎ (q ≤ p + 1) → Near
-    go (inl more) = three more (two_same (mark (q - 2)) (mark (q - 1)) (mark q))
-    go (inr last) =
-        let one : p ≡ q - 1 = omega (arith, lt, last) in here (inl (subst (λ (k : ℕ). AreTwins fs d (at k) (at q)) one h))
-
-  -- let n be at most the number of each entry that has a twin among the two entries before it: then the first n files
-  -- have no twins
-  pub first_none : (n : ℕ) → n ≤ length fs
-      → ((r : ℕ) → 0 < r → r < length es → IsTwinAt fs d es e r → n ≤ (get_or es r e).1) → NoTwins (take n fs)
-  first_none n most least = no_twins_from (take n fs) d (λ i j p q.
-      let low : j < n = omega (arith, q, length-take-le n fs most) in
-      ap (λ f. is_twin f (get_or (take n fs) j d)) (get_or-take n fs i d (omega (arith, p, low)))
-      ∙ ap (is_twin (get_or fs i d)) (get_or-take n fs j d low) ∙ one i j p low (is_twin (get_or fs i d) (get_or fs j d)) refl)
-    where
-      found : (i j k m : ℕ) → i < j → j < n → k < length es → m < length es → (at k).1 ≡ i → (at m).1 ≡ j
-          → AreTwins fs d (at k) (at m) → (k < m) ⊎ (m ≤ k) → ⊥
-      found i j k m p q x y first second twin (inl lt) =
-          let r = near k m lt y twin in
-          let low : n ≤ (at r.0).1 = least r.0 r.1 r.2 r.4 in
-          omega (arith, low, r.3, second, q)
-      found i j k m p q x y first second twin (inr le) =
-          let back : (at m).1 ≤ (at k).1 = upward (names_in fs) es index d.name e m k le x (sym twin.0) in
-          omega (arith, back, first, second, p)
-
-      one : (i j : ℕ) → i < j → j < n → (t : Bool) → is_twin (get_or fs i d) (get_or fs j d) ≡ t → t ≡ false
-      one i j p q false h = refl
-      one i j p q true h =
-          let a = entry_of i (omega (arith, p, q, most)) in
-          let b = entry_of j (omega (arith, q, most)) in
-          let same : is_twin (file a.0) (file b.0) ≡ true =
-          ap (λ (k : ℕ). is_twin (get_or fs k d) (file b.0)) a.2 ∙ ap (λ (k : ℕ). is_twin (get_or fs i d) (get_or fs k d)) b.2 ∙ h in
-          absurd (found i j a.0 b.0 p q a.1 b.1 a.2 b.2 ((twins a.0 b.0 a.1 b.1).0 same) (cases_lt a.0 b.0))
+    -- so the first n files have no twins
+    pub first_none : n ≤ length fs → NoTwins (take n fs)
+    first_none most = no_twins_from (take n fs) d (λ i j p q. false_from_ne_true _ (λ same.
+        let low : j < n = omega (arith, q, length-take-le n fs most) in
+        let a = entry_of i (omega (arith, p, low, most)) in
+        let b = entry_of j (omega (arith, low, most)) in
+        let twin : AreTwins fs d (at a.0) (at b.0) = (twins a.0 b.0 a.1 b.1).0
+        (rw (a.2, b.2) (rw (get_or-take n fs i d (omega (arith, p, low)), get_or-take n fs j d low) at same)) in
+        elim (cases_lt a.0 b.0) [
+          | inl lt ↦ omega (arith, near a.0 b.0 lt b.1 twin (cases_lt (a.0 + 1) b.0), b.2, low)
+          | inr le ↦ omega (arith, upward (names_in fs) es index d.name e b.0 a.0 le a.1 (sym twin.0), a.2, b.2, p)
+        ]))
 
   -- ---- files that are replaced
 
@@ -270,22 +244,16 @@ module _ (fs : List NamedFile) (es : List Entry) (index : IsIndex (names_in fs) 
     -- if no entry shares its name, there are no twins
     pub apart_twins : NoTwins fs
     apart_twins =
-        subst NoTwins (take_all (length fs) fs (omega arith)) (first_none (length fs) (omega arith) (λ r above l twin.
-        absurd (no_twin_at r above l twin)))
+        subst NoTwins (take_all (length fs) fs (omega arith)) (first_none (length fs) (λ r above l twin. absurd (no_twin_at r above l twin)) (omega arith))
 
     alone : (p : ℕ) → IsShared es e (at p).0 → ⊥
     alone p (i, j, lt, m, first, second) =
         apart e j (omega (arith, lt)) m (between (names_in fs) es index d.name e i (j - 1) j (omega (arith, lt)) (omega arith) m (first ∙ sym second))
 
-    not_replaced : (n : ℕ) → n < length fs → (t : Bool) → list_any (replaced_by (get_or fs n d)) fs ≡ t → t ≡ false
-    not_replaced n l false h = refl
-    not_replaced n l true h =
-        let r = entry_of n l in
-        absurd (alone r.0 (replaced_back r.0 r.1 (ap (λ (k : ℕ). list_any (replaced_by (get_or fs k d)) fs) r.2 ∙ h)).0)
-
     -- if no entry shares its name, no file is replaced
     pub none_replaced : AllByRecursion (λ f. list_any (replaced_by f) fs ≡ false) fs
-    none_replaced = recursion_from_All _ fs (All-from_get_or (λ f. list_any (replaced_by f) fs ≡ false) fs d (λ n l. not_replaced n l _ refl))
+    none_replaced = recursion_from_All _ fs (All-from_get_or (λ f. list_any (replaced_by f) fs ≡ false) fs d (λ n l. false_from_ne_true _ (λ h.
+        let r = entry_of n l in alone r.0 (replaced_back r.0 r.1 (ap (λ (k : ℕ). list_any (replaced_by (get_or fs k d)) fs) r.2 ∙ h)).0)))
 
 -- ---- the files of the code
 

@@ -62,5 +62,6 @@ pub returns-clause-none : goal.returns-clause-none
 returns-clause-none g c =
     let fs : List NamedFile = map g.F.Named.named c.args.files.now in
     let es : List Entry = c.args.self.now.sorted.items in
-    first_none fs es c.requires no_named no_entry c.loop-place.first (omega (arith, c.loop-place.invariant.most, length-map c.args.files.now g.F.Named.named))
+    first_none fs es c.requires no_named no_entry c.loop-place.first
     (λ r above below twin. c.loop-place.invariant.least no_named no_entry r above (omega (arith, below)) twin)
+    (omega (arith, c.loop-place.invariant.most, length-map c.args.files.now g.F.Named.named))
