@@ -17,7 +17,7 @@ less_orders =
 
 -- ---- names that are equal
 
-same_pair : {A B : Type 0} (a b : A × B) → a.0 ≡ b.0 → a.1 ≡ b.1 → a ≡ b
+pub same_pair : {A B : Type 0} (a b : A × B) → a.0 ≡ b.0 → a.1 ≡ b.1 → a ≡ b
 same_pair {A} {B} a b p q = ap (λ (x : A). (x, a.1)) p ∙ ap (λ (y : B). (b.0, y)) q
 
 -- the test that the code makes decides whether two names are equal

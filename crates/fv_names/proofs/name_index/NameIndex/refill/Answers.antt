@@ -1,7 +1,7 @@
 use Rattle.std.proofs.Common.{◌≡◌, ◌<◌, ℕ, ◌+◌, [], ◌∷◌, ◌++◌, get_or, length, List, map, take, sym, ap, ◌∙◌, subst, arith, length-take-le, take_all}
-use Rattle.fv_base.proofs.Laws.{All, AllWithin, get_or-map, length-map, take_more, All-map, recursion_from_All, common_steps}
+use Rattle.fv_base.proofs.Laws.{All, AllWithin, get_or-map, length-map, take_more, All-map, recursion_from_All}
 use Rattle.std.specs.List.Sorted.{IsPermutation}
-use Rattle.std.proofs.lemmas.List.Elements.{All-from_all_within, AllWithin-more, AllWithin-none}
+use Rattle.std.proofs.lemmas.List.Elements.{All-from_all_within, AllWithin-more}
 use Rattle.fv_names.specs.Words.{NamedFile, names_in, Entry, Halves, IsName, halves_of, numbered}
 use Rattle.fv_names.proofs.IndexLaws.{no_entry, no_named}
 use Rattle.fv_names.proofs.NumberedLaws.{numbered_at, numbered_length}
@@ -23,9 +23,6 @@ entry_more fs i l =
       numbered_at (names_in fs) i no_named.name no_entry count,
       get_or-map (λ (f : NamedFile). f.name) fs i no_named no_named.name l,
     )
-
-pub loop-file-init : goal.loop-file-init
-loop-file-init g c = grind (arith, common_steps, AllWithin-none) steps 150000
 
 pub loop-file-preserved : goal.loop-file-preserved
 loop-file-preserved g c =
@@ -59,6 +56,3 @@ returns-clause-found g c =
       all = subst (λ es. IsPermutation es c.sort_unstable.new.self.items) items c.sort_unstable.ensures.permutation;
       are_names = recursion_from_All IsName (names_in files) (All-map IsName (λ (f : NamedFile). f.name) files whole);
     }
-
-pub overflow_cast-number : goal.overflow_cast-number
-overflow_cast-number c = grind (arith, common_steps)

@@ -60,7 +60,6 @@ returns-in_err-number g c =
       arith,
       l,
       c.in_err-number.ensures.lookup.3,
-      c.deref.ensures.value,
       ap length c.requires.are_numbers,
       length-map c.requires.entries (λ (e : Entry). e.1),
     )))
