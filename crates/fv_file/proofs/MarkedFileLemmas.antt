@@ -23,7 +23,7 @@ use Rattle.fv_file.specs.Words.{CellForm, cell_len, attributes_at, state_at, is_
 use Rattle.fv_file.specs.Words.{file_header_len_at, file_size_at, payload_at, header_sum_of, allows_large, state_of, has_file_sum, skips_data}
 use Rattle.fv_file.specs.Words.{unmarked, pad_kind, file_checks, state_checks, bits_of, is_valid_state}
 use Rattle.fv_file.specs.declared.state.FileState.{FileState}
-use Rattle.fv_file.specs.inner.CellVerdicts.{file_verdict, cell_verdict, cell_with, sort_of, sort_checks, stray, StateSort}
+use Rattle.fv_file.specs.inner.CellVerdicts.{is_held, file_verdict, cell_verdict, cell_with, sort_of, sort_checks, stray, StateSort}
 use Rattle.fv_file.proofs.FileVerdictLemmas.{IsHeaderRight, data_right, data_wrong, sizes, MarkedFile, held, marked_file}
 use Rattle.fv_base.specs.declared.fault.FaultKind.TheVariants as kinds
 use Rattle.fv_file.specs.inner.CellVerdicts as sorts
@@ -31,7 +31,6 @@ use Rattle.fv_base.specs.inner.Verdicts.{first_fault}
 use Rattle.std.proofs.lemmas.Bool.{not-false}
 use Rattle.fv_file.proofs.SortLemmas.{sorted}
 use Rattle.fv_file.proofs.CellVerdictLemmas.{verdict_fails, verdict_holds, no_bits}
-use Rattle.fv_file.specs.inner.MarkSteps.{is_held}
 use Rattle.fv_file.proofs.ErasedByteLemmas.{all_at}
 
 -- ---- 1. the fault Fixed

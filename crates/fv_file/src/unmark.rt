@@ -6,7 +6,7 @@ ghost use Rattle.fv_base.specs.declared.fault.Fault.{Fault};
 ghost use Rattle.fv_file.specs.Cells.{CellForm, Tiles};
 ghost use Rattle.fv_file.specs.FileChecks.{IsFirstCellFault};
 ghost use Rattle.fv_file.specs.Unmarking.{unmarked, Unmarks};
-ghost use Rattle.fv_file.specs.inner.MarkSteps.{is_held};
+ghost use Rattle.fv_file.specs.inner.CellVerdicts.{is_held};
 
 use crate::cell_walk::{is_free, stride_at};
 use crate::head::may_move;

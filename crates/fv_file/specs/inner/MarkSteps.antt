@@ -1,13 +1,9 @@
 -- One place of a body, at which the mark of a fixed file may be taken away.
-use Rattle.std.specs.Prelude.{ℕ, ◌≡◌, ◌⊎◌, ◌+◌, ◌&&◌, not, Bool, List, Err}
+use Rattle.std.specs.Prelude.{ℕ, ◌≡◌, ◌⊎◌, ◌+◌, List, Err}
 use Rattle.fv_base.specs.Words.{outer_fault}
 use Rattle.fv_base.specs.declared.flash.FileSystem.{FileSystem}
 use Rattle.fv_base.specs.declared.flash.Polarity.{Polarity}
 use Rattle.fv_base.specs.declared.fault.FaultKind.TheVariants as kinds
-use Rattle.fv_file.specs.FileAttributes.{is_fixed}
-use Rattle.fv_file.specs.FileChecks.{is_valid_state, skips_data}
-use Rattle.fv_file.specs.FileHeaders.{attributes_at, state_at}
-use Rattle.fv_file.specs.States.{state_of}
 use Rattle.fv_file.specs.Unmarking.{unmarked}
 use Rattle.fv_file.specs.inner.CellVerdicts.{cell_verdict}
 
@@ -16,7 +12,3 @@ use Rattle.fv_file.specs.inner.CellVerdicts.{cell_verdict}
 abbrev pub OneMarkLess : FileSystem → Polarity → ℕ → List ℕ → List ℕ → Type 0
 OneMarkLess system polarity at r b =
     (b ≡ r) ⊎ ((cell_verdict system polarity at r ≡ Err (outer_fault kinds.Fixed (at + 19))) × (b ≡ unmarked 0 r))
-
--- State, Type and Attributes of the header at the start of r show a valid file that is not a pad and is fixed
-abbrev pub is_held : Polarity → List ℕ → Bool
-is_held polarity r = not (skips_data (is_valid_state (state_of polarity (state_at r))) r) && is_fixed (attributes_at r)

@@ -3,7 +3,7 @@ use Rattle.fv_base.proofs.Laws.{refl, length-drop, ◌∙◌, arith, drop, lengt
 use Rattle.fv_file.specs.Words.{CellForm}
 use Rattle.fv_file.specs.inner.CellVerdicts.{cell_verdict}
 use Rattle.fv_file.proofs.BodyLemmas.{all_kept, rest_free, rest_used}
-use Rattle.fv_file.proofs.UnmarkLemmas.{Unmarked, cell_long, one_further, one_less, stands_unmarked, stride_len, unmarked_begins, unmarked_cell}
+use Rattle.fv_file.proofs.UnmarkLemmas.{Unmarked, cell_long, one_further, stands_unmarked, stride_len, unmarked_begins, unmarked_cell}
 use Rattle.fv_file.proofs.unmark.unmark_files.Goals.{After-unmark_at, After-stride_at-at}
 use Rattle.fv_file.proofs.unmark.unmark_files.Goals as goal
 
@@ -12,8 +12,8 @@ here : (c : After-unmark_at) → Unmarked c.args.system c.args.polarity c.args.f
     × ((cell : CellForm) × (cell_verdict c.args.system c.args.polarity (c.args.first + c.loop-polarity.at) (drop c.loop-polarity.at c.unmark_at.new.body) ≡ Ok cell))
 here c =
     let used = rest_used _ _ c.loop-polarity.body c.loop-polarity.at c.bytes_from.ensures (sym c.is_free.ensures ∙ c.loop-polarity-test.true) in
-    let cell = unmarked_cell _ _ _ _ _ _ _ c.in_ok-verify_unmarked.ensures.tiled c.loop-polarity.invariant used c.unmark_at.ensures in
-    (one_less _ _ _ _ _ _ _ c.loop-polarity.invariant used cell.1, cell.2)
+    let k = unmarked_cell _ _ _ _ _ _ _ c.in_ok-verify_unmarked.ensures.tiled c.loop-polarity.invariant used c.unmark_at.ensures in
+    (k.1, k.2)
 
 pub unmark_at-requires : goal.unmark_at-requires
 unmark_at-requires c =
