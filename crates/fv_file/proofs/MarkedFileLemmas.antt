@@ -1,7 +1,7 @@
 -- A fixed file without its mark is a cell, or its fault is FileSum. The steps:
 -- 1. If the fault of a cell is Fixed, the cell is a file that is valid by its state, the header of the file is right,
---    and the file is fixed (`fixed_there`). So State, Type and Attributes show this (`there_held`), and those of a cell
---    that is read do not (`cell_moves`).
+--    and the file is fixed (`fixed_there`). State, Type and Attributes of this header show the mark (`there_held`).
+--    The header of a cell that is read does not show a mark that has to be taken away (`cell_moves`).
 -- 2. Without the mark, all bytes but two are the same (`other`, `behind_mark`). One of the two bytes is more by 4, and
 --    the other is less by 4, so the sum of the header is the same modulo 256 (`front_sum`, `middle_sum`, `around_sum`).
 -- 3. So the header is right as before (`right_still`), and the data are checked as before (`skipped_same`,
