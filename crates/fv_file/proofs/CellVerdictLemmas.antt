@@ -4,7 +4,7 @@
 -- does not hold, no cell begins there.
 use Rattle.std.proofs.Common.{◌≡◌, ◌≤◌, ℕ, ◌%◌, [], ◌++◌, ◌==◌, ◌≢◌, ◌⊎◌, leb-true}
 use Rattle.fv_base.proofs.Laws.{inl, inr, List, length, refl, sym, ap, ◌∙◌, subst, arith, Bool, true, false, append-nil, nat_lt, slice_index, Option}
-use Rattle.fv_base.proofs.Laws.{None, Some, Ok, Err, le-leb, ltb-true, ltb-false, eqb-true, eq-eqb, IsFirstFault, Which, Fails, AllAre, erased_byte}
+use Rattle.fv_base.proofs.Laws.{None, Some, Ok, Err, le-leb, ltb-true, ltb-false, eqb-true, eq-eqb, IsFirstFault, Which, Fails, AllAre, AllHold, erased_byte}
 use Rattle.fv_base.proofs.Laws.{all_hold, and_split, first_is, none_fails, not_at_most, verdict_err, verdict_ok, common_steps}
 use Rattle.fv_base.specs.inner.Verdicts.{first_fault, verdict_by}
 use Rattle.fv_base.specs.declared.fault.Fault.{Fault}
@@ -66,6 +66,10 @@ pub verdict_stands : (s : FileSystem) (p : Polarity) (at : ℕ) (r : List ℕ) (
 verdict_stands s p at r c in_eights is =
     let v = verdict_ok (first_fault (cell_checks s p at r)) (cell_in (state_of p (slice_index r 23)) at r) c (sym (verdict_is s p at r) ∙ is) in
     subst (λ (d : CellForm). CellStandsAt s p at d r) v.1 (cell_stands s p at r in_eights v.0)
+
+pub verdict_holds : (s : FileSystem) (p : Polarity) (at : ℕ) (r : List ℕ) (c : CellForm) → cell_verdict s p at r ≡ Ok c
+    → AllHold (cell_checks s p at r)
+verdict_holds s p at r c is = all_hold (cell_checks s p at r) (verdict_ok _ _ c (sym (verdict_is s p at r) ∙ is)).0
 
 pub verdict_fails : (s : FileSystem) (p : Polarity) (at : ℕ) (r : List ℕ) (f : Fault) → cell_verdict s p at r ≡ Err f
     → first_fault (cell_checks s p at r) ≡ Some f
