@@ -1,11 +1,10 @@
 -- A flash image within the limit has a renewed image, or one of its volumes is rejected, and never both. The steps:
 -- 1. If each volume that a walk finds has a canonical image, the renewed image is joined from them (`build`).
 -- 2. Otherwise the first volume without an image is rejected (`images`).
-use Rattle.std.proofs.Common.{◌≡◌, ◌⊎◌, ◌≤◌, ◌<◌, ◌+◌, ◌-◌, ℕ, [], ◌∷◌, ◌++◌, List, length, drop}
+use Rattle.std.proofs.Common.{◌≡◌, ◌⊎◌, ◌≤◌, ◌+◌, ◌-◌, ℕ, [], ◌∷◌, ◌++◌, List, length, drop}
 use Rattle.fv_base.proofs.Laws.{AllByRecursion, drop_at, IsBytes, bytes_drop, bytes_take, volume_limit}
 use Rattle.fv_base.proofs.Laws.{field, in_middle, refl, sym, ap, ◌∙◌, subst, arith, inl, inr, append_assoc, length-append, length-drop, length-take-le}
 use Rattle.fv_base.specs.declared.fault.Fault.{Fault}
-use Rattle.fv_flash.specs.Words.{VolumeAt}
 use Rattle.fv_flash.specs.inner.FoundWalks.{FoundFrom}
 use Rattle.fv_flash.proofs.Laws.{at_within, found_walk_exists, one_found, one_length, walk_found}
 use Rattle.fv_tree.specs.Words.{moved_fault}
@@ -48,14 +47,17 @@ images b small from (o ∷ os) (n, (l, e, none, v), walk) = elim (every_input (f
       inr (moved_fault o f.place.depth f, record { before = []; place = o; after = os; split = refl; images = tt; rejected = (n, v, f, bad, refl) })
   | inl (image, to) ↦ elim (images b small (o + n) os walk) [
     | inl all ↦ inl ((n, image, v, to), all)
-    | inr (f, r) ↦ inr (f, record {
+    | inr (f, r) ↦ inr (
+      f,
+      record {
         before = o ∷ r.before;
         place = r.place;
         after = r.after;
         split = ap (λ (xs : List ℕ). o ∷ xs) r.split;
         images = ((n, image, v, to), r.images);
         rejected = r.rejected;
-      })
+      },
+    )
   ]
 ]
 

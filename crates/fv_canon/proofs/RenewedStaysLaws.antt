@@ -1,14 +1,14 @@
 -- A renewed image in which the same volumes are found is its own renewed image.
-use Rattle.std.proofs.Common.{◌≡◌, ◌≤◌, ℕ, [], ◌∷◌, List, length, take, drop, refl, sym, ap, ◌∙◌, subst, arith}
-use Rattle.fv_base.proofs.Laws.{AllByRecursion, field, length-take-le, length-drop, volume_limit}
+use Rattle.std.proofs.Common.{◌≡◌, ℕ, [], ◌∷◌, List, length, drop, refl, ap, ◌∙◌, subst, arith}
+use Rattle.fv_base.proofs.Laws.{AllByRecursion, field, length-take-le, length-drop}
 use Rattle.fv_flash.specs.Words.{Found, IsPlace, VolumeAt}
-use Rattle.fv_flash.proofs.Laws.{at_within, one_found, one_length}
+use Rattle.fv_flash.proofs.Laws.{at_within, one_found}
 use Rattle.fv_head.specs.declared.extent.Extent.{Extent}
-use Rattle.fv_tree.specs.Words.{Accepted, Meaning, head_of}
+use Rattle.fv_tree.specs.Words.{head_of}
 use Rattle.fv_tree.proofs.Laws.{front_of}
 use Rattle.fv_head.proofs.Laws.{one_front}
-use Rattle.fv_canon.specs.Words.{NormalisesTo, IsNormalisedAt, NormalisesAll, NormalisesEach}
-use Rattle.fv_canon.proofs.HeadlineLaws.{image_keeps_length_and_meaning, image_is_its_own_image}
+use Rattle.fv_canon.specs.Words.{NormalisesTo, IsNormalisedAt, NormalisesAll}
+use Rattle.fv_canon.proofs.HeadlineLaws.{image_is_its_own_image}
 
 -- the canonical image at a place is a volume of its own length there. `IsPlace` of the renewed image gives some length m;
 -- the volume that is read there has length n, and the header is one
@@ -26,9 +26,13 @@ each b o (p ∷ ps) long ((n, v, to), all) ((e, (m, w)), places) =
 
 pub stays : (b o places : List ℕ) → NormalisesAll b o → Found b places → Found o places → NormalisesAll o o
 stays b o places (short, found_at, found, r) f g =
-    let at = one_found b found_at places found f in
-    (omega (arith, short, r.length_is), places, g, record {
-      length_is = refl;
-      volumes = each b o places r.length_is (subst (λ (ps : List ℕ). AllByRecursion (IsNormalisedAt b o) ps) at r.volumes) g.places;
-      others = λ k inside none. refl;
-    })
+    let at = one_found b found_at places found f in (
+      omega (arith, short, r.length_is),
+      places,
+      g,
+      record {
+        length_is = refl;
+        volumes = each b o places r.length_is (subst (λ (ps : List ℕ). AllByRecursion (IsNormalisedAt b o) ps) at r.volumes) g.places;
+        others = λ k inside none. refl;
+      },
+    )

@@ -1,5 +1,5 @@
 -- A walk finds the volumes in any bytes: at each multiple of 8 a volume begins, or the checks of a header have a fault.
-use Rattle.std.proofs.Common.{◌≡◌, ℕ, zero, suc, ◌+◌, ◌*◌, ◌%◌, ◌<◌, ◌≤◌, [], ◌∷◌, ◌⊎◌, List, length, drop, refl, sym, subst, arith, inl, inr}
+use Rattle.std.proofs.Common.{◌≡◌, ℕ, zero, suc, ◌+◌, ◌*◌, ◌%◌, ◌<◌, ◌≤◌, [], ◌∷◌, ◌⊎◌, List, length, drop, refl, subst, arith, inl, inr}
 use Rattle.fv_base.proofs.Laws.{IsBytes, cases_lt, bytes_drop}
 use Rattle.fv_head.specs.Words.{HeadFields, BeginsVolume}
 use Rattle.fv_head.specs.declared.extent.Extent.{Extent}

@@ -1,6 +1,6 @@
 -- Bytes begin with a list of blocks, or have a first fault: the blocks are read one by one, and each is the last one, or
 -- has a fault, or the next one is read.
-use Rattle.std.proofs.Common.{◌≡◌, ◌≢◌, ◌⊎◌, ◌≤◌, ◌<◌, ℕ, zero, suc, ◌+◌, ◌*◌, [], ◌∷◌, ◌++◌, ◌==◌, List, length, take, drop, refl, arith, inl, inr, Bool, true, false}
+use Rattle.std.proofs.Common.{◌≡◌, ◌⊎◌, ◌≤◌, ◌<◌, ℕ, zero, suc, ◌+◌, ◌*◌, [], ◌∷◌, ◌++◌, ◌==◌, List, length, take, drop, refl, arith, inl, inr}
 use Rattle.std.proofs.Common.{eqb-true}
 use Rattle.std.proofs.lemmas.Bool.{cases_Bool, eqb-false}
 use Rattle.fv_base.proofs.Laws.{IsBytes, bytes_drop, first_is, le_at, Option, None, Some}

@@ -79,5 +79,11 @@ pub add_up : (b : List ℕ) (e : Extent) (cs : List CellForm) → BeginsTiled e 
 add_up b e cs t =
     let volume = take e.length b in
     let long : length volume ≡ e.length = length-take-le e.length b t.begins.is_within in
-    omega (arith, counted_is cs, tiles_sum e.file_system e.polarity e.first cs (drop e.first volume) t.tiles, length-drop e.first volume, long,
-        (first_lies b t.head e t.begins).1)
+    omega (
+      arith,
+      counted_is cs,
+      tiles_sum e.file_system e.polarity e.first cs (drop e.first volume) t.tiles,
+      length-drop e.first volume,
+      long,
+      (first_lies b t.head e t.begins).1,
+    )

@@ -207,7 +207,7 @@ module _ (fs : List NamedFile) (es : List Entry) (index : IsIndex (names_in fs) 
     -- if no entry shares its name, there are no twins
     pub apart_twins : NoTwins is_twin fs
     apart_twins =
-        subst (NoTwins is_twin) is_twin (take_all (length fs) fs (omega arith)) (first_none (length fs) (λ r above l twin. absurd (no_twin_at r above l twin)) (omega arith))
+        subst (NoTwins is_twin) (take_all (length fs) fs (omega arith)) (first_none (length fs) (λ r above l twin. absurd (no_twin_at r above l twin)) (omega arith))
 
     alone : (p : ℕ) → IsShared es e (at p).0 → ⊥
     alone p (i, j, lt, m, first, second) =

@@ -1,5 +1,5 @@
 -- An input has at most one first fault: of the volume that it should be, or of the bytes after a volume.
-use Rattle.std.proofs.Common.{◌≡◌, ◌≤◌, ◌<◌, ℕ, List, length, refl, sym, ap, ◌∙◌, arith, inl, inr}
+use Rattle.std.proofs.Common.{◌≡◌, ℕ, List, sym, ap, ◌∙◌, arith, inl, inr}
 use Rattle.fv_base.proofs.Laws.{First, depth_limit, outer_fault}
 use Rattle.fv_base.specs.declared.fault.Fault.{Fault}
 use Rattle.fv_tree.specs.Words.{IsFirstOfInput, length_of, outermost}

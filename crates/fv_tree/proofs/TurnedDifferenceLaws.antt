@@ -1,5 +1,5 @@
 -- The first difference of two meanings is the same whichever of them is the first: each test of a difference is.
-use Rattle.std.proofs.Common.{arith, ◌≡◌, ℕ, ◌+◌, ◌==◌, List, refl, ap, sym, ◌∙◌, Bool, Option}
+use Rattle.std.proofs.Common.{◌≡◌, ℕ, ◌+◌, ◌==◌, List, refl, ap, sym, ◌∙◌, Bool, Option}
 use Rattle.fv_base.proofs.Laws.{Decides, option_or, beq, booleans_Decides, bytes_eq, Decides-eqb, bytes_eq-Decides, bytes_of}
 use Rattle.std.proofs.lemmas.Bool.Decides.{Decides-like, same_from_decides}
 use Rattle.fv_head.specs.Words.{Extension, HeadFields}
