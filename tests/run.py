@@ -6,7 +6,8 @@ check shows. Without names, all of them run, which is the gate: .ci/run.
 A NAME is a check (`rows`), a pattern (`t*`), or one case of a check, after a dot: a test in Python
 (`commands.same.Verdicts`), a row (`rows.block-map-of-256`), the wrong bodies of a crate or one of them (`mutants.fv_head`,
 `mutants.fv_head.EDIT`), a document with examples (`examples.README`). The check gets the text after the dot as its
-argument. A check that is run by name does not run the checks that it needs.
+argument. It gets the arguments after `--` as they are: `tests/run.py tables -- --write`. A check that is run by name does
+not run the checks that it needs.
 
 A check has passed if it ends with status 0. With status 77 it has tried nothing, so it has neither passed nor failed. With
 any other status it has failed, and a check that needs it is not run and has failed too. Each line `NAME: skipped: WHAT,
@@ -40,8 +41,6 @@ SKIPPED = re.compile(r"^(?:[^ ]+: )?skipped: (.*)$", re.MULTILINE)
 COUNTED = re.compile(r"^(\d+) passed, (\d+) failed$", re.MULTILINE)
 # The lines that are shown of the output of a check that has failed.
 LAST = 60
-# The command of a check that is a module of tests/sources.
-SOURCES = "python3 -m tests.sources"
 # The file without which a check that needs the thing can try nothing, and the reason that is given then.
 MADE = {
     "program": ("crates/fv_tool/out/fv_tool", "the program is not built (./fvtool builds it)"),
@@ -49,21 +48,22 @@ MADE = {
 }
 # The folders with files that are made. No check may write anywhere else in the repository.
 OUTPUTS = {".git", "out", "target", "dist"}
+# A check that proves nothing, and a check beside which nothing may run.
+QUICK, ALONE = 1, 2
 
 
 @dataclass(frozen=True)
 class Check:
-    """A check: its name, what it shows, and the package of unittest (`tests.NAME`) or the command that it runs. `after`
-    names the checks that come first, if they are run too, and `needs` the things without which the check can try nothing
-    (MADE). Nothing runs beside a check that is `alone`. `joint` replaces the dots in the argument of the check."""
+    """A check: its name, the package of unittest (`tests.NAME`) or the command that it runs, or a function that returns
+    errors, and what it shows. `after` names the checks that come first, if they are run too, and `needs` the things without
+    which the check can try nothing (MADE). `joint` replaces the dots in the argument of the check."""
 
     name: str
-    shows: str
     runs: str | Callable[[Run], list[str]]
+    kind: int
+    shows: str
     after: tuple[str, ...] = ()
     needs: tuple[str, ...] = ()
-    quick: bool = False
-    alone: bool = False
     joint: str = "."
 
     def first(self) -> tuple[str, ...]:
@@ -73,10 +73,9 @@ class Check:
     def words(self, arguments: list[str]) -> list[str]:
         """Returns the words of the command for some cases, or for all of them."""
         assert isinstance(self.runs, str)
-        given = [it.replace(".", self.joint) for it in arguments]
         if re.fullmatch(r"tests\.\w+", self.runs):
-            return [sys.executable, "-m", "tests.frame", self.runs, *given]
-        return [*shlex.split(self.runs), *given]
+            return [sys.executable, "-m", "tests.frame", self.runs, *arguments]
+        return [*shlex.split(self.runs), *arguments]
 
 
 def bad_edits(run: Run) -> list[str]:
@@ -90,145 +89,64 @@ def written(run: Run) -> list[str]:
     return [f"{it} was written, changed or removed" for it in differing(run.files, files(ROOT))]
 
 
+# fmt: off
 CHECKS = (
-    Check(
-        "prove",
-        "proves all crates from nothing, with their tests, programs and must-fail edits (rt ci)",
-        """bash -c 'rt ci && tools/statement --keep "$OUTPUT"'""",
-        alone=True,
-    ),
-    Check("edits", "each must-fail edit has reached the prover in rt ci", bad_edits, after=("prove",)),
-    Check(
-        "program",
-        "the program is built from these sources, or is built now",
-        "tools/prove.py fv_tool",
-        after=("prove",),
-        needs=("program",),
-        quick=True,
-        alone=True,
-    ),
-    Check(
-        "archive",
-        "the archive of the library for C is compiled over the crates that rt ci has proved",
-        "python3 -m tests.mutants.archive",
-        after=("prove",),
-        alone=True,
-    ),
-    Check(
-        "mutants",
-        "the prover rejects wrong bodies of public functions, many in each check",
-        "env AFTER_RT_CI=yes python3 -m tests.mutants",
-        after=("archive",),
-        alone=True,
-        joint="/",
-    ),
-    Check(
-        "library",
-        "the library for C is built over its archive (libfv/build)",
-        "libfv/build",
-        after=("archive",),
-        needs=("library",),
-        quick=True,
-        alone=True,
-    ),
-    Check(
-        "libfv",
-        "the library in C and C++, over many inputs, and beside the program",
-        "tests/libfv/library",
-        needs=("library",),
-        quick=True,
-    ),
-    Check(
-        "rows",
-        "the program over each row of crates/fv_run_tests/rows: command, inputs, status and output",
-        "python3 -m tests.program.rows",
-        needs=("program",),
-        quick=True,
-    ),
-    Check(
-        "memory",
-        "the program and some tests with each allocation refused in turn, and the memory that a small file takes",
-        "tests/program/memory",
-        after=("prove",),
-        needs=("program",),
-    ),
-    Check(
-        "slices",
-        "the compiler rejects a test that uses a slice of the input after the input is gone",
-        "tests/program/slices",
-        after=("prove",),
-    ),
-    Check("commands", "the commands fv-.. and the recipes", "tests.commands", after=("program", "library"), quick=True),
-    Check("python", "the package for Python, and its wheel", "tests.python", after=("program", "library"), quick=True),
-    Check("rust", "the crates for Rust", "tests.rust", after=("program", "library"), quick=True),
-    Check(
-        "abi",
-        "the built library and fv.h have the interface that libfv/abi describes (abidiff, nm)",
-        "tests/libfv/abi",
-        needs=("library",),
-        quick=True,
-    ),
-    Check(
-        "streams",
-        "the program with closed, full and interrupted streams, with wrong arguments, and at a terminal",
-        "tests/program/streams",
-        needs=("program",),
-        quick=True,
-    ),
-    Check(
-        "static",
-        "the program is linked with the C library in it (tools/static), and runs",
-        "tests/program/static",
-        needs=("program",),
-        quick=True,
-    ),
-    Check(
-        "examples",
-        "the examples of README, PROGRAM, FAULTS and the recipes print what these documents show",
-        "python3 -m tests.examples",
-        after=("library",),
-        needs=("program",),
-        quick=True,
-    ),
-    Check("tables", "MEANING and CONTRACTS agree with the comments of specs/ and src/", f"{SOURCES}.tables", quick=True),
-    Check(
-        "words",
-        "definitions are in the right one of specs/ and specs/inner/, and names and quotes in documents exist",
-        f"{SOURCES}.words",
-        quick=True,
-    ),
-    Check("believed", "PROVED lists the definitions that the headline rests on", f"{SOURCES}.believed", quick=True),
-    Check("plain", "documents, comments and help use plain words and readable widths", f"{SOURCES}.plain", quick=True),
-    Check(
-        "header",
-        "the files that are made from fv.h, and the files that show the version or the licence, agree",
-        "tests/sources/header",
-        quick=True,
-    ),
-    Check("types", "the types of all scripts in Python are right (mypy --strict)", f"{SOURCES}.types", quick=True),
-    Check("shell", "shell scripts are well-formed (shellcheck), and safe with CDPATH", f"{SOURCES}.shell", quick=True),
-    Check("runner", "this script counts rightly, and ends what it starts", "tests.sources", quick=True),
-    Check(
-        "fuzz",
-        "a minute of the fuzzer of the library has no finding, and the fuzzer finds planted faults",
-        "tests/fuzz/check",
-        needs=("library",),
-    ),
-    Check(
-        "fresh",
-        "`make check` passes in a new root of Debian 12 that has only what README asks for",
-        "tests/install/fresh",
-        needs=("program",),
-    ),
-    Check(
-        "install",
-        "the program, the library, the pages and the Debian packages are installed, run and removed",
-        "tests/install/install",
-        needs=("program", "library"),
-        alone=True,
-    ),
-    Check("written", "no check has written in the repository, except made files", written, quick=True, alone=True),
+    Check("prove", """bash -c 'rt ci && tools/statement --keep "$OUTPUT"'""", ALONE,
+          "proves all crates from nothing, with their tests, programs and must-fail edits (rt ci)"),
+    Check("edits", bad_edits, 0, "each must-fail edit has reached the prover in rt ci", after=("prove",)),
+    Check("program", "tools/prove.py fv_tool", QUICK | ALONE,
+          "the program is built from these sources, or is built now", after=("prove",), needs=("program",)),
+    Check("archive", "python3 -m tests.mutants.archive", ALONE,
+          "the archive of the library for C is compiled over the crates that rt ci has proved", after=("prove",)),
+    Check("mutants", "python3 -m tests.mutants", ALONE,
+          "the prover rejects wrong bodies of public functions, many in each check", after=("archive",), joint="/"),
+    Check("library", "libfv/build", QUICK | ALONE,
+          "the library for C is built over its archive", after=("archive",), needs=("library",)),
+    Check("libfv", "tests/libfv/library", QUICK,
+          "the library in C and C++, over many inputs, and beside the program", needs=("library",)),
+    Check("rows", "python3 -m tests.program.rows", QUICK,
+          "the program over each row of crates/fv_run_tests/rows: command, inputs, status and output", needs=("program",)),
+    Check("memory", "tests/program/memory", 0,
+          "the program and some tests with each allocation refused in turn, and the memory that a small file takes",
+          after=("prove",), needs=("program",)),
+    Check("slices", "tests/program/slices", 0,
+          "the compiler rejects a test that uses a slice of the input after the input is gone", after=("prove",)),
+    Check("commands", "tests.commands", QUICK, "the commands fv-.. and the recipes", after=("program", "library")),
+    Check("python", "tests.python", QUICK, "the package for Python, and its wheel", after=("program", "library")),
+    Check("rust", "tests.rust", QUICK, "the crates for Rust", after=("program", "library")),
+    Check("abi", "tests/libfv/abi", QUICK,
+          "the built library and fv.h have the interface that libfv/abi describes (abidiff, nm)", needs=("library",)),
+    Check("streams", "tests/program/streams", QUICK,
+          "the program with closed, full and interrupted streams, with wrong arguments, and at a terminal",
+          needs=("program",)),
+    Check("static", "tests/program/static", QUICK,
+          "the program is linked with the C library in it (tools/static), and runs", needs=("program",)),
+    Check("examples", "python3 -m tests.examples", QUICK,
+          "the examples of README, PROGRAM, FAULTS and the recipes print what these documents show",
+          after=("library",), needs=("program",)),
+    Check("tables", "python3 -m tests.sources.tables", QUICK,
+          "MEANING and CONTRACTS agree with the comments of specs/ and src/, from which they are made"),
+    Check("words", "python3 -m tests.sources.words", QUICK,
+          "definitions are in the right one of specs/ and specs/inner/, and names and quotes in documents exist"),
+    Check("believed", "python3 -m tests.sources.believed", QUICK,
+          "PROVED lists the files that the headline rests on, and these files hold nothing else"),
+    Check("plain", "python3 -m tests.sources.plain", QUICK,
+          "documents, comments and help use plain words, whole sentences and readable widths"),
+    Check("header", "bash -c 'tools/version --check && tools/licence --check && libfv/generate --check'", QUICK,
+          "the files that are made from fv.h, and those that show the version or the licence, agree"),
+    Check("types", "python3 -m tests.sources.types", QUICK, "the types in all scripts in Python are right (mypy --strict)"),
+    Check("shell", "python3 -m tests.sources.shell", QUICK, "shell scripts are well-formed (shellcheck), and safe with CDPATH"),
+    Check("runner", "tests.sources", QUICK, "this script counts rightly, and leaves no process"),
+    Check("fuzz", "tests/fuzz/check", 0,
+          "a minute of the fuzzer of the library has no finding, and the fuzzer finds planted faults", needs=("library",)),
+    Check("fresh", "tests/install/fresh", 0,
+          "`make check` passes in a new root of Debian 12 that has only what README asks for", needs=("program",)),
+    Check("install", "tests/install/install", ALONE,
+          "the program, the library, the pages and the Debian packages are installed, run and removed",
+          needs=("program", "library")),
+    Check("written", written, QUICK | ALONE, "no check has written in the repository, except made files"),
 )
+# fmt: on
 
 
 @dataclass
@@ -330,10 +248,10 @@ def end_all() -> None:
 class Run:
     """A run of some checks, each with its arguments: the results so far, by the names of the checks."""
 
-    def __init__(self, chosen: dict[str, list[str]], room: Path, given: argparse.Namespace, checks: tuple[Check, ...]) -> None:
-        self.checks = [it for it in checks if it.name in chosen]
+    def __init__(self, room: Path, given: argparse.Namespace, checks: tuple[Check, ...]) -> None:
+        self.room, self.given = room, given
+        self.checks = [it for it in checks if it.name in given.chosen]
         self.waiting = [*self.checks]
-        self.chosen, self.room, self.given = chosen, room, given
         self.is_live = given.verbose or len(self.waiting) == 1
         self.environment = environment(given.jobs)
         self.files = files(ROOT)
@@ -362,6 +280,8 @@ class Run:
         folder = self.room / check.name
         folder.mkdir(mode=0o755)
         env = {**self.environment, "OUTPUT": str(path), "TMPDIR": str(folder)}
+        if "prove" in self.results:
+            env["AFTER_RT_CI"] = "yes"  # the kit's files are built from these sources, though they do not say so
         with path.open("wb") as file:
             try:
                 if callable(check.runs):
@@ -369,7 +289,7 @@ class Run:
                     file.write("".join(f"{check.name}: {it}\n" for it in lines).encode())
                     status = int(bool(lines))
                 else:
-                    words = check.words(self.chosen[check.name])
+                    words = check.words(self.given.chosen[check.name])
                     status = self.wait(check, self.begin(words, env, file))
             except OSError as error:
                 file.write(f"{check.name}: {error}\n".encode())
@@ -397,8 +317,8 @@ class Run:
     def start(self) -> None:
         """Starts the checks that can be started now, in the order of the table."""
         for check in list(self.waiting):
-            is_alone = any(it.alone for it in self.running.values())
-            if len(self.running) >= self.given.jobs or is_alone or check.alone and self.running:
+            is_alone = any(it.kind & ALONE for it in self.running.values())
+            if len(self.running) >= self.given.jobs or is_alone or check.kind & ALONE and self.running:
                 return
             if any(name == it.name for name in check.first() for it in [*self.waiting, *self.running.values()]):
                 continue
@@ -421,13 +341,15 @@ class Run:
 
     def show(self, check: Check, result: Result, seconds: float) -> None:
         """Prints the line of a check that has ended, and the end of its output if it has failed."""
-        lines = self.output(check.name).splitlines() if (self.room / f"{check.name}.said").exists() else []
-        last = lines[-1].removeprefix(f"{check.name}: ") if lines and not result.failed else ""
-        said = result.why or last
-        print(f"{check.name}: {result.state}, {seconds:.1f} s" + f": {said}" * bool(said))
+        path = self.room / f"{check.name}.said"
+        lines = self.output(check.name).splitlines() if path.exists() else []
+        said = [result.why, *(lines[-1:] if result.state == "passed" else result.skips)]
+        first = next((it.removeprefix(f"{check.name}: ") for it in said if it), "")
+        print(f"{check.name}: {result.state}, {seconds:.1f} s" + f": {first}" * bool(first))
         if result.state == "failed" and not self.is_live:
             left = len(lines) - LAST
-            print(*[f"    ({left} lines before)"] * (left > 0), *(f"    {it}" for it in lines[-LAST:]), sep="\n")
+            shown = [*[f"({left} lines before)"] * (left > 0), *lines[-LAST:]]
+            print("".join(f"    {it}\n" for it in shown), end="")
         sys.stdout.flush()
 
     def summary(self) -> int:
@@ -447,27 +369,36 @@ class Run:
         return int(bool(wrong or skips and self.given.strict))
 
 
-def chosen(given: argparse.Namespace, checks: tuple[Check, ...]) -> dict[str, list[str]]:
-    """Returns the names of the checks that the arguments choose, each with its arguments."""
-    found: dict[str, list[str]] = {}
+def chosen(reader: argparse.ArgumentParser, checks: tuple[Check, ...]) -> argparse.Namespace:
+    """Reads the arguments. Adds the names of the checks that they choose, each with the arguments of the check."""
+    words, further = sys.argv[1:], list[str]()
+    if "--" in words:
+        words, further = words[: words.index("--")], words[words.index("--") + 1 :]
+    given = reader.parse_args(words)
+    given.chosen = {}
     for name in given.names:
-        pattern, _, argument = name.partition(".")
-        matching = fnmatch.filter([it.name for it in checks], pattern)
+        pattern, _, case = name.partition(".")
+        matching = [it for it in checks if fnmatch.fnmatch(it.name, pattern)]
         if not matching:
-            sys.exit(f"run.py: no check has the name {pattern}; --list lists them")
+            reader.error(f"no check has the name {pattern} (--list lists them)")
         for it in matching:
-            found.setdefault(it, []).extend([argument] * bool(argument))
-    return found or {it.name: [] for it in checks if it.quick or not given.quick}
+            given.chosen.setdefault(it.name, []).extend([case.replace(".", it.joint)] * bool(case))
+    if further and len(given.chosen) != 1:
+        reader.error("the arguments after -- are for one check")
+    for cases in given.chosen.values():
+        cases += further
+    given.chosen = given.chosen or {it.name: [] for it in checks if it.kind & QUICK or not given.quick}
+    return given
 
 
 def listed(checks: list[Check]) -> Iterator[str]:
     """Yields the lines of --list. An asterisk marks the checks of the quick run."""
     for it in checks:
-        yield f"{it.name:8} {'*' if it.quick else ' '} {it.shows}" + f" (after {', '.join(it.first())})" * bool(it.first())
+        yield f"{it.name:8} {'*' if it.kind & QUICK else ' '} {it.shows}" + f" (after {', '.join(it.first())})" * bool(it.first())
 
 
-def arguments() -> argparse.Namespace:
-    """Reads the arguments."""
+def arguments() -> argparse.ArgumentParser:
+    """Returns a reader of the arguments before `--`."""
     form = argparse.RawDescriptionHelpFormatter
     reader = argparse.ArgumentParser(prog="tests/run.py", description=__doc__, formatter_class=form)
     reader.add_argument("names", metavar="NAME", nargs="*", help="a check, or one case of it (none: all checks)")
@@ -476,7 +407,7 @@ def arguments() -> argparse.Namespace:
     reader.add_argument("--jobs", type=int, default=usual_jobs(), help="how many run side by side (here %(default)s)")
     reader.add_argument("--verbose", action="store_true", help="shows the output of each check")
     reader.add_argument("--list", action="store_true", help="lists the checks, and runs none")
-    return reader.parse_args()
+    return reader
 
 
 def interrupt(number: int, _: object) -> None:
@@ -486,12 +417,11 @@ def interrupt(number: int, _: object) -> None:
 
 def main(checks: tuple[Check, ...] = CHECKS) -> int:
     """Runs the checks that the arguments choose. Returns the exit status."""
-    given = arguments()
-    names = chosen(given, checks)
+    given = chosen(arguments(), checks)
     if given.list:
-        print(*listed([it for it in checks if it.name in names]), sep="\n")
+        print(*listed([it for it in checks if it.name in given.chosen]), sep="\n")
         return 0
-    if "prove" in names and subprocess.run(["tools/prove.py", "--kit"], cwd=ROOT, check=False).returncode:
+    if "prove" in given.chosen and subprocess.run(["tools/prove.py", "--kit"], cwd=ROOT, check=False).returncode:
         return 1
     ctypes.CDLL(None).prctl(36, 1)  # PR_SET_CHILD_SUBREAPER: a process whose parent has ended becomes a child of this one
     for number in (signal.SIGTERM, signal.SIGHUP):
@@ -499,7 +429,7 @@ def main(checks: tuple[Check, ...] = CHECKS) -> int:
     room = Path(tempfile.mkdtemp(prefix="checks-"))
     room.chmod(0o755)  # other users run some of what the checks make
     try:
-        run = Run(names, room, given, checks)
+        run = Run(room, given, checks)
         run.run()
         return run.summary()
     except KeyboardInterrupt:
