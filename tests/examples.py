@@ -3,7 +3,7 @@
 """Runs the examples of README.md, docs/PROGRAM.md, docs/FAULTS.md and the READMEs of recipes/, and compares their
 outputs and exit statuses with what the documents show. If names of documents are given, it runs only the examples of
 these documents. With --root, it runs them in the root of another system, as a user of the commands that are installed
-there (tests/install/roots).
+there (tests/install/test_release.py).
 
 An example is an indented block with lines that begin with '$ '. All examples of a document run in one shell, in an
 empty folder that has ./fvtool, libfv/, crates/ and recipes/, and with the commands of python/bin in the PATH. A

@@ -65,6 +65,12 @@ class RoomCase(unittest.TestCase):
         how: dict[str, Any] = {"capture_output": True, "text": True, "errors": "surrogateescape", **more}
         return subprocess.run(words, env=env, **how)
 
+    def runs(self, status: int, *words: str | Path, **more: Any) -> str:
+        """Runs a command, checks its status, and returns what it writes to standard output."""
+        said = self.run_command(*words, **more)
+        self.assertEqual(said.returncode, status, f"{words}: {said.stdout}{said.stderr}")
+        return str(said.stdout)
+
     def expect(self, status: int, text: str, *words: str | Path, **more: Any) -> None:
         """Runs a command, and checks its status and what it writes to both streams together."""
         said = self.run_command(*words, capture_output=False, stdout=subprocess.PIPE, stderr=subprocess.STDOUT, **more)

@@ -139,11 +139,11 @@ CHECKS = (
     Check("runner", "tests.sources", QUICK, "this script counts rightly, and leaves no process"),
     Check("fuzz", "tests/fuzz/check", 0,
           "a minute of the fuzzer of the library has no finding, and the fuzzer finds planted faults", needs=("library",)),
-    Check("fresh", "tests/install/fresh", 0,
+    Check("fresh", "python3 -m tests.install.fresh", 0,
           "`make check` passes in a new root of Debian 12 that has only what README asks for", needs=("program",)),
-    Check("install", "tests/install/install", ALONE,
+    Check("install", "tests.install", 0,
           "the program, the library, the pages and the Debian packages are installed, run and removed",
-          needs=("program", "library")),
+          after=("program", "library")),
     Check("written", written, QUICK | ALONE, "no check has written in the repository, except made files"),
 )
 # fmt: on
