@@ -54,8 +54,8 @@ QUICK, ALONE = 1, 2
 
 @dataclass(frozen=True)
 class Check:
-    """A check: its name, the package of unittest (`tests.NAME`) or the command that it runs, or a function that returns
-    errors, and what it shows. `after` names the checks that come first, if they are run too, and `needs` the things without
+    """A check: its name, the package or module of unittest (`tests.NAME`) or the command that it runs, or a function that
+    returns errors, and what it shows. `after` names the checks that come first, if they are run too, and `needs` the things without
     which the check can try nothing (MADE). `joint` replaces the dots in the argument of the check."""
 
     name: str
@@ -73,7 +73,7 @@ class Check:
     def words(self, arguments: list[str]) -> list[str]:
         """Returns the words of the command for some cases, or for all of them."""
         assert isinstance(self.runs, str)
-        if re.fullmatch(r"tests\.\w+", self.runs):
+        if re.fullmatch(r"tests(\.\w+)+", self.runs):
             return [sys.executable, "-m", "tests.frame", self.runs, *arguments]
         return [*shlex.split(self.runs), *arguments]
 
@@ -81,7 +81,8 @@ class Check:
 def bad_edits(run: Run) -> list[str]:
     """Returns the edits that did not reach the prover. rt ci also passes if an edit cannot be applied or compiled, but
     that edit shows nothing."""
-    return [line for line in run.output("prove").splitlines() if "BAD EDIT" in line]
+    lines = run.output("prove").splitlines() if "prove" in run.results else ["BAD EDIT: prove has not run"]
+    return [line for line in lines if "BAD EDIT" in line]
 
 
 def written(run: Run) -> list[str]:
@@ -102,11 +103,11 @@ CHECKS = (
           "the prover rejects wrong bodies of public functions, many in each check", after=("archive",), joint="/"),
     Check("library", "libfv/build", QUICK | ALONE,
           "the library for C is built over its archive", after=("archive",), needs=("library",)),
-    Check("libfv", "tests/libfv/library", QUICK,
-          "the library in C and C++, over many inputs, and beside the program", needs=("library",)),
-    Check("rows", "python3 -m tests.program.rows", QUICK,
+    Check("libfv", "tests.libfv", QUICK,
+          "the library in C and C++, and the checks of the fuzzer over made inputs", after=("program", "library")),
+    Check("rows", "tests.program.test_rows", QUICK,
           "the program over each row of crates/fv_run_tests/rows: command, inputs, status and output", needs=("program",)),
-    Check("memory", "tests/program/memory", 0,
+    Check("memory", "tests.program.test_memory", 0,
           "the program and some tests with each allocation refused in turn, and the memory that a small file takes",
           after=("prove",), needs=("program",)),
     Check("slices", "tests/program/slices", 0,
@@ -116,7 +117,7 @@ CHECKS = (
     Check("rust", "tests.rust", QUICK, "the crates for Rust", after=("program", "library")),
     Check("abi", "tests/libfv/abi", QUICK,
           "the built library and fv.h have the interface that libfv/abi describes (abidiff, nm)", needs=("library",)),
-    Check("streams", "tests/program/streams", QUICK,
+    Check("streams", "tests.program.test_streams", QUICK,
           "the program with closed, full and interrupted streams, with wrong arguments, and at a terminal",
           needs=("program",)),
     Check("static", "tests/program/static", QUICK,
@@ -136,7 +137,7 @@ CHECKS = (
           "the files that are made from fv.h, and those that show the version or the licence, agree"),
     Check("types", "python3 -m tests.sources.scripts types", QUICK, "the types in all scripts in Python are right (mypy --strict)"),
     Check("shell", "python3 -m tests.sources.scripts shell", QUICK, "shell scripts are well-formed (shellcheck), and safe with CDPATH"),
-    Check("runner", "tests.sources", QUICK, "this script counts rightly, and leaves no process"),
+    Check("runner", "tests.sources.test_runner", QUICK, "this script counts rightly, and leaves no process"),
     Check("fuzz", "tests/fuzz/check", 0,
           "a minute of the fuzzer of the library has no finding, and the fuzzer finds planted faults", needs=("library",)),
     Check("fresh", "python3 -m tests.install.fresh", 0,
