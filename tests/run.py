@@ -33,7 +33,6 @@ import time
 from collections.abc import Callable, Iterator
 from dataclasses import dataclass, field
 from pathlib import Path
-from typing import BinaryIO
 
 ROOT = Path(__file__).resolve().parent.parent
 NOTHING_TRIED = 77
@@ -277,30 +276,30 @@ class Run:
 
     def try_one(self, check: Check) -> None:
         """Runs a check. (This is a thread of its own.)"""
-        began, path = time.monotonic(), self.room / f"{check.name}.said"
-        folder = self.room / check.name
-        folder.mkdir(mode=0o755)
+        began = time.monotonic()
+        try:
+            result = counted(check.name, self.status(check), self.output(check.name))
+        except Exception as error:  # whatever it is, the check has failed, and the run goes on
+            result = Result("failed", str(error), failed=1)
+        self.ended.put((check, result, time.monotonic() - began))
+
+    def status(self, check: Check) -> int:
+        """Runs a check, writes its output to a file, and returns its status."""
+        path, folder = self.room / f"{check.name}.said", self.room / check.name
+        folder.mkdir()
         env = {**self.environment, "OUTPUT": str(path), "TMPDIR": str(folder)}
         if "prove" in self.results:
             env["AFTER_RT_CI"] = "yes"  # the kit's files are built from these sources, though they do not say so
+        if callable(check.runs):
+            lines = check.runs(self)
+            path.write_text("".join(f"{check.name}: {it}\n" for it in lines), encoding="utf-8")
+            return int(bool(lines))
+        none, words = subprocess.DEVNULL, check.words(self.given.chosen[check.name])
         with path.open("wb") as file:
-            try:
-                if callable(check.runs):
-                    lines = check.runs(self)
-                    file.write("".join(f"{check.name}: {it}\n" for it in lines).encode())
-                    status = int(bool(lines))
-                else:
-                    words = check.words(self.given.chosen[check.name])
-                    status = self.wait(check, self.begin(words, env, file))
-            except OSError as error:
-                file.write(f"{check.name}: {error}\n".encode())
-                status = 1
-        self.ended.put((check, counted(check.name, status, self.output(check.name)), time.monotonic() - began))
-
-    def begin(self, words: list[str], env: dict[str, str], file: BinaryIO) -> subprocess.Popen[bytes]:
-        """Starts the process of a check."""
-        none = subprocess.DEVNULL
-        return subprocess.Popen(words, cwd=ROOT, env=env, stdin=none, stdout=file, stderr=file, start_new_session=True)
+            process = subprocess.Popen(
+                words, cwd=ROOT, env=env, stdin=none, stdout=file, stderr=file, start_new_session=True
+            )
+        return self.wait(check, process)
 
     def wait(self, check: Check, process: subprocess.Popen[bytes]) -> int:
         """Waits for a check to end, and shows its output until then if its lines are wanted. Returns its status."""
@@ -309,8 +308,7 @@ class Run:
         with (self.room / f"{check.name}.said").open("rb") as file:
             while True:
                 status = process.poll()
-                sys.stdout.buffer.write(file.read())
-                sys.stdout.flush()
+                print(file.read().decode(errors="replace"), end="", flush=True)
                 if status is not None:
                     return status
                 time.sleep(0.1)
@@ -346,12 +344,11 @@ class Run:
         lines = self.output(check.name).splitlines() if path.exists() else []
         said = [result.why, *(lines[-1:] if result.state == "passed" else result.skips)]
         first = next((it.removeprefix(f"{check.name}: ") for it in said if it), "")
-        print(f"{check.name}: {result.state}, {seconds:.1f} s" + f": {first}" * bool(first))
+        print(f"{check.name}: {result.state}, {seconds:.1f} s" + f": {first}" * bool(first), flush=True)
         if result.state == "failed" and not self.is_live:
             left = len(lines) - LAST
             shown = [*[f"({left} lines before)"] * (left > 0), *lines[-LAST:]]
-            print("".join(f"    {it}\n" for it in shown), end="")
-        sys.stdout.flush()
+            print("".join(f"    {it}\n" for it in shown), end="", flush=True)
 
     def summary(self) -> int:
         """Lists what failed and what was skipped, and prints the last line. Returns the exit status, which is 0 if nothing
@@ -427,6 +424,7 @@ def main(checks: tuple[Check, ...] = CHECKS) -> int:
     ctypes.CDLL(None).prctl(36, 1)  # PR_SET_CHILD_SUBREAPER: a process whose parent has ended becomes a child of this one
     for number in (signal.SIGTERM, signal.SIGHUP):
         signal.signal(number, interrupt)
+    os.umask(0o022)
     room = Path(tempfile.mkdtemp(prefix="checks-"))
     room.chmod(0o755)  # other users run some of what the checks make
     try:
@@ -436,7 +434,13 @@ def main(checks: tuple[Check, ...] = CHECKS) -> int:
     except KeyboardInterrupt:
         print("interrupted")
         return 130
+    except OSError as error:  # the output cannot be written, or the disk is full
+        os.dup2(os.open(os.devnull, os.O_WRONLY), 1)
+        print(f"run.py: {error}", file=sys.stderr)
+        return 1
     finally:
+        for number in (signal.SIGINT, signal.SIGTERM, signal.SIGHUP):
+            signal.signal(number, signal.SIG_IGN)
         end_all()
         subprocess.run(["rm", "-rf", "--one-file-system", room], check=False)
 
