@@ -23,18 +23,17 @@ from __future__ import annotations
 
 import concurrent.futures
 import hashlib
-import importlib
 import os
 import pathlib
 import re
-import shutil
 import signal
 import subprocess
 import sys
 import threading
 import time
-import types
 import typing
+
+import kit
 
 ROOT = pathlib.Path(__file__).resolve().parent.parent
 # The crates that this script builds, with the name of the file that is made from the crate, and the command of the kit
@@ -42,8 +41,6 @@ ROOT = pathlib.Path(__file__).resolve().parent.parent
 # because a process that loads it on an older processor would die by SIGILL at the first call. (The program checks the
 # processor itself when it starts.)
 MADE = {"fv_tool": ("fv_tool", ["run"]), "fv_c": ("libfv_c.a", ["lib", "--cpu=x86-64"])}
-# What to do without the kit.
-WITHOUT_KIT = "Without the kit, install the packages or the wheel of a release (docs/INSTALL.md)."
 # The command that a user runs to make the file of each crate.
 BUILDS = {"fv_tool": "./fvtool < crates/fv_tool/stdin", "fv_c": "libfv/build"}
 # About how many seconds the proof of a crate takes with one processor. The order of the builds and the reported share of
@@ -121,28 +118,6 @@ def fail(what: str, said: str) -> typing.NoReturn:
     sys.stderr.write(said)
     say(f"{what}. (The kit's own lines are above.)")
     os._exit(1)
-
-
-def needs_kit() -> None:
-    """Ends this script with a message if the kit is not there."""
-    if not shutil.which("rt"):
-        say(f"rt, the command of the Rattle kit, is not in PATH. {WITHOUT_KIT}")
-        sys.exit(1)
-
-
-def module_of_kit() -> types.ModuleType | None:
-    """Returns the kit's module for Python, if it has the functions that this script uses."""
-    needs_kit()
-    page = subprocess.run(["rt", "doc"], stdout=subprocess.PIPE, text=True, check=True).stdout.strip()
-    sys.path.insert(0, os.path.join(os.path.dirname(page), "bin"))
-    sys.dont_write_bytecode = True
-    try:
-        rtlib = importlib.import_module("rtlib")
-    except ImportError:
-        return None
-    used: list[tuple[typing.Any, str]] = [(rtlib, "guarded"), (rtlib, "lock"), (rtlib, "Crate")]
-    used += [(getattr(rtlib, "Crate", None), it) for it in ("below", "is_built", "build_rlib")]
-    return rtlib if all(hasattr(*it) for it in used) else None
 
 
 class Said:
@@ -311,8 +286,12 @@ def build_libraries(plan: Plan) -> None:
 
 def build(name: str, command: list[str]) -> None:
     """Builds the libraries below a crate, and then, by a command of the kit, the file that is made from it."""
-    folder, rtlib = ROOT / "crates" / name, module_of_kit()
+    folder = ROOT / "crates" / name
     jobs, said, plan = len(os.sched_getaffinity(0)), Said(), None
+    try:
+        rtlib = kit.rtlib()
+    except ImportError:
+        rtlib = None
     if rtlib:
         signal.signal(signal.SIGINT, signal.SIG_DFL)
         rtlib.guarded()
@@ -329,8 +308,7 @@ def build(name: str, command: list[str]) -> None:
         # The command does the same as `rt run`, except that it keeps no results.
         code = "import sys, rtlib; rtlib.KEPT = []; sys.exit(rtlib.main(*sys.argv[1:]))"
         words = [sys.executable, "-c", code, *command, "--jobs", str(min(jobs, 2))]
-        os.environ["PYTHONPATH"] = os.path.dirname(rtlib.__file__ or "")
-        os.environ["PYTHONDONTWRITEBYTECODE"] = "1"
+        os.environ |= {"PYTHONPATH": str(kit.folder() / "bin"), "PYTHONDONTWRITEBYTECODE": "1"}
     last = begin(run, words, folder, said)
     if plan:
         first_of([last], plan)
@@ -342,7 +320,7 @@ def main() -> int:
     """Builds the crate that the arguments name, unless it is built already. With --is-made, only reports whether it is
     built."""
     if sys.argv[1:] == ["--kit"]:
-        needs_kit()
+        kit.folder()
         return 0
     only_asks = sys.argv[1:2] == ["--is-made"]
     names = sys.argv[2:] if only_asks else sys.argv[1:]
@@ -358,7 +336,7 @@ def main() -> int:
     is_made = made.exists() and (note.read_text() == found if note.exists() else latest(paths) <= made.stat().st_mtime)
     if only_asks:
         if not is_made:
-            say(f"{made.relative_to(ROOT)} is not built from these sources yet: {BUILDS[name]} builds it. {WITHOUT_KIT}")
+            say(f"{made.relative_to(ROOT)} is not built from these sources yet: {BUILDS[name]} builds it. {kit.WITHOUT_KIT}")
         return 0 if is_made else 1
     try:
         if not is_made:

@@ -99,7 +99,7 @@ import typing
 
 from tests.checks import ROOT
 from tests.sources.definitions import calls
-from kit import rtlib
+import kit
 from tests.mutants.parts import FALSE, NO_PROOF, TEXT, Edit, Function, Open, Report
 from tests.mutants.parts import answered, answers, applied, around, assumed, changed, copy_of, functions, homes, read_edit
 from tests.mutants.parts import given_lemmas, report_of, searched, stubbed, with_copy, without
@@ -782,8 +782,8 @@ def jobs() -> int:
 
 def run(names: list[str], given: argparse.Namespace, checks: Checks, room: pathlib.Path) -> int:
     """Tries the edits of some crates. Returns the exit status."""
-    kit = rtlib()
-    crates = [Crate(name, kit, room, checks) for name in names]
+    of_kit = kit.rtlib()
+    crates = [Crate(name, of_kit, room, checks) for name in names]
     tries = {crate.name: tries_of(crate, given) for crate in crates}
     left = [crate for crate in crates if any(not each.grade for each in tries[crate.name])]
     lacking = link_libraries(left, room)
