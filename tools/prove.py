@@ -102,6 +102,12 @@ def latest(paths: list[pathlib.Path]) -> float:
     return max(path.stat().st_mtime for path in paths)
 
 
+def free_memory() -> int:
+    """Returns how much memory is free, in kB."""
+    with open("/proc/meminfo", encoding="utf-8") as file:
+        return next(int(line.split()[1]) for line in file if line.startswith("MemAvailable:"))
+
+
 def minutes(seconds: float) -> str:
     """Returns the text for a number of seconds."""
     whole = max(round(seconds / 60), 1)
@@ -146,9 +152,7 @@ class Plan:
     """The crates that are still to be built, the crates that are being built, and how much of the work is done."""
 
     def __init__(self, crates: list[typing.Any]) -> None:
-        with open("/proc/meminfo", encoding="utf-8") as file:
-            free = next(int(line.split()[1]) for line in file if line.startswith("MemAvailable:"))
-        self.processors, self.rooms = len(os.sched_getaffinity(0)), free // ROOM
+        self.processors, self.rooms = len(os.sched_getaffinity(0)), free_memory() // ROOM
         self.left, self.count, self.begin = {*crates}, len(crates), time.monotonic()
         self.work = sum(SECONDS.get(it.name, USUAL) for it in crates)
         # The last report of the progress: the crates, the crates with the numbers of their functions, and the time of
