@@ -14,11 +14,10 @@ import typing
 
 from tests.checks import ROOT
 from tests.mutants.edits import applied, with_copy
-from tests.mutants.functions import functions, homes, stubbed
+from tests.mutants.functions import functions, homes, proofs_of, stubbed
 from tests.mutants.proofs import answered, answers, assumed, given_lemmas, searched, without
 from tests.mutants.reports import Report, report_of
 from tests.mutants.tries import GRADING, Try
-
 
 PARTS = ("src", "specs", "proofs")
 LIMIT = 1800  # the seconds of a check
@@ -156,7 +155,7 @@ class Crate:
             if texts and each.of:
                 texts = with_copy(texts, self.texts, each.of, each.suffix, each.edit)
             if texts and each.left:
-                file = "proofs/" + each.left.unit.replace("::", "/") + "/Answers.antt"
+                file = proofs_of(each.left.unit)
                 bare = without(texts.get(file, ""), each.left.goal)
                 texts = {**texts, file: bare} if bare is not None else None
         return texts
@@ -175,11 +174,11 @@ class Crate:
         short. If the goals are not listed yet, the texts switch the search off."""
         texts = {**stubbed(texts, given), **self.lemmas}
         for it in [it for it in self.paths.values() if it.unit in given]:
-            for file in ("Answers", "Invariants"):
-                texts.pop(f"proofs/{it.unit.replace('::', '/')}/{file}.antt", None)
+            for file in ("Answers.antt", "Invariants.antt"):
+                texts.pop(proofs_of(it.unit, file), None)
             states, name = f"use {self.module(it.path)}.Statement.{{statement}}", it.path.rpartition("::")[2]
             proof = f"{states}\n\naxiom pub {name}_spec : {{M : Type 1}} → statement M\n"
-            texts[f"proofs/{it.path.replace('::', '/')}/Proof.antt"] = proof
+            texts[proofs_of(it.path, "Proof.antt")] = proof
         for each in group:
             units = {owner.unit for owner in each.owners}
             if len(units) == 1 and each.listed is not None:
@@ -192,7 +191,7 @@ class Crate:
     def add_answers(self, texts: dict[str, str], each: Try, unit: str, listed: set[str]) -> None:
         """Gives the goals of a changed function, with an answer or without, except the goal that has to stay open. If
         the edit names no goal, the answers are tried."""
-        file = "proofs/" + unit.replace("::", "/") + "/Answers.antt"
+        file = proofs_of(unit)
         goals = listed | (answered(texts.get(file, "")) if each.edit.goal else set())
         others = tuple(sorted(it for it in goals if not each.is_wanted(it)))
         if others:

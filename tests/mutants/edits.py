@@ -7,7 +7,7 @@ import dataclasses
 import pathlib
 import re
 
-from tests.mutants.functions import IMPORT, Function, around, functions, homes
+from tests.mutants.functions import IMPORT, Function, around, functions, homes, proofs_of
 
 
 @dataclasses.dataclass(frozen=True)
@@ -90,10 +90,7 @@ def with_copy(
     """Returns texts in which a changed copy follows a function. The copy's name is the function's name and a suffix,
     and its proof is copied too. The original function stays as it was, and imports are changed in place."""
     lines, name = was[function.file].split("\n"), function.path.rpartition("::")[2]
-    first = function.first
-    while first and lines[first - 1].strip().startswith("#["):
-        first -= 1
-    body, found = "\n".join(lines[first : function.last + 1]), dict(texts)
+    body, found = "\n".join(lines[function.head : function.last + 1]), dict(texts)
     for change in edit.changes:
         if change.file == function.file and change.old in body:
             body = body.replace(change.old, change.new)
@@ -104,7 +101,7 @@ def with_copy(
     here = next(it for it in functions(function.file, text, homes(was)) if it.path == function.path)
     lines = text.split("\n")
     found[function.file] = "\n".join([*lines[: here.last + 1], "", body, *lines[here.last + 1 :]])
-    folder = f"proofs/{function.unit.replace('::', '/')}"
+    folder = proofs_of(function.unit, "").rstrip("/")
     module = re.compile(rf"(?<=\.proofs\.){re.escape(function.unit.replace('::', '.'))}(?![\w-])")
     for file in [it for it in was if it.startswith(f"{folder}/")]:
         found[folder + suffix + file.removeprefix(folder)] = module.sub(lambda it: it[0] + suffix, was[file])

@@ -8,7 +8,6 @@ import re
 
 from tests.sources.definitions import FUNCTION
 
-
 # Patterns for lines of a source: the attribute of a function that is proved with others, the first line of an `impl` or a
 # trait, the first line of a type, and an import.
 CYCLE = re.compile(r"\s*#\[cycle\((\w+)\)\]")
@@ -19,18 +18,30 @@ IMPORT = re.compile(r"\s*(?:pub(?:\([^)]*\))? )?use ")
 
 @dataclasses.dataclass(frozen=True)
 class Function:
-    """A function of a source: its lines, its path below the crate, and the unit that is proved as one, which is the
-    function or the cycle that contains it. `is_single` says whether a copy of it may be put beside it under another
-    name: the function must not be in a cycle, in a trait or in an `impl` of a trait. `is_public` says whether other crates
-    or C can call it."""
+    """A function of a source: the first line of its attributes, its first line, the line that opens its body, and its
+    last line; its path below the crate; and the unit that is proved as one, which is the function or the cycle that
+    contains it. `is_single` says whether a copy of it may be put beside it under another name: the function must not be
+    in a cycle, in a trait or in an `impl` of a trait. `is_public` says whether other crates or C can call it."""
 
     file: str
+    head: int
     first: int
+    body: int
     last: int
     path: str
     unit: str
     is_single: bool
     is_public: bool
+
+
+def indent_of(line: str) -> str:
+    """Returns the spaces at the start of a line."""
+    return line[: len(line) - len(line.lstrip(" "))]
+
+
+def proofs_of(unit: str, file: str = "Answers.antt") -> str:
+    """Returns the path of a proof file of a function, or of a cycle."""
+    return f"proofs/{unit.replace('::', '/')}/{file}"
 
 
 def holder_of(header: str) -> str:
@@ -65,17 +76,18 @@ def homes(texts: dict[str, str]) -> dict[str, list[str]]:
     return {name: module_of(file) for file, text in sources.items() for name in TYPE.findall(text)}
 
 
-def last_of(lines: list[str], first: int, indent: str, in_trait: bool) -> int | None:
-    """Returns the last line of the function that begins at a line, or nothing if the function is a trait's function
-    without a body."""
-    opened = False
+def extent(lines: list[str], first: int, indent: str, in_trait: bool) -> tuple[int, int] | None:
+    """Returns the line that opens the body of the function that begins at a line, and the last line of the function. If
+    the function is a trait's function without a body, returns nothing."""
     for number in range(first, len(lines)):
         line = lines[number]
         opens = number == first or line.startswith((f"{indent}{{", f"{indent})"))
-        opened = opened or opens and line.endswith(("{", "{}"))
-        if opened and (line.startswith(f"{indent}}}") or opens and line.endswith("{}")):
-            return number
-        if in_trait and not opened and line.endswith(";"):
+        if opens and line.endswith("{}"):
+            return number, number
+        if opens and line.endswith("{"):
+            last = next((at for at in range(number, len(lines)) if lines[at].startswith(f"{indent}}}")), None)
+            return (number, last) if last is not None else None
+        if in_trait and line.endswith(";"):
             return None
     return None
 
@@ -100,16 +112,19 @@ def functions(file: str, text: str, types: dict[str, list[str]]) -> list[Functio
         elif line.startswith("}"):
             holder, in_trait, of_trait = "", False, False
         cycle = is_cycle[1] if is_cycle else cycle
-        last = last_of(lines, number, begins[1], in_trait) if begins else None
-        if begins and last is not None:
+        lies = extent(lines, number, begins[1], in_trait) if begins else None
+        if begins and lies:
             in_type = bool(begins[1] and holder)
             inside = [*types.get(holder, parts), holder] if in_type else parts
             path = "::".join([*inside, begins[4]])
-            alone = f"+{begins[4]}" if calls_itself(begins[4], lines[number + 1 : last + 1], in_type) else begins[4]
+            alone = f"+{begins[4]}" if calls_itself(begins[4], lines[number + 1 : lies[1] + 1], in_type) else begins[4]
             unit = "::".join([*parts, f"+{cycle}"] if cycle else [*inside, alone])
             is_single = unit == path and not (begins[1] and of_trait)
             is_public = begins[2] == "pub " or bool(begins[3])
-            found.append(Function(file, number, last, path, unit, is_single, is_public))
+            head = number
+            while head and lines[head - 1].strip().startswith("#["):
+                head -= 1
+            found.append(Function(file, head, number, *lies, path, unit, is_single, is_public))
             cycle = ""
     return found
 
@@ -126,20 +141,11 @@ def stubbed(texts: dict[str, str], units: set[str]) -> dict[str, str]:
     constant may need their results."""
     found = dict(texts)
     for file in [it for it in texts if it.startswith("src/")]:
-        lines, text = texts[file].split("\n"), list[str]()
-        at = 0
+        lines, text, at = texts[file].split("\n"), list[str](), 0
         for it in functions(file, texts[file], homes(texts)):
-            indent = " " * (len(lines[it.first]) - len(lines[it.first].lstrip()))
-            ends = (f"{indent}{{", f"{indent})")
-            heads = [it.first, *(n for n in range(it.first, it.last) if lines[n].startswith(ends))]
-            begin = next((n for n in heads if lines[n].endswith("{")), it.last)
-            is_plain = " const fn " not in f" {lines[it.first]}"
-            if it.unit in units and is_plain and begin < it.last:
-                first = it.first
-                while first > at and lines[first - 1].strip().startswith("#["):
-                    first -= 1
-                text += [*lines[at:first], *(line for line in lines[first : it.first] if not CYCLE.match(line))]
-                text += [*lines[it.first : begin + 1], f"{indent}    loop {{}}"]
+            if it.unit in units and " const fn " not in f" {lines[it.first]}" and it.body < it.last:
+                text += [*lines[at : it.head], *(line for line in lines[it.head : it.first] if not CYCLE.match(line))]
+                text += [*lines[it.first : it.body + 1], f"{indent_of(lines[it.first])}    loop {{}}"]
                 at = it.last
         found[file] = "\n".join([*text, *lines[at:]])
     return found

@@ -11,7 +11,6 @@ from tests.mutants.proofs import answers
 from tests.mutants.reports import FALSE, NO_PROOF, TEXT, Open, Report
 from tests.mutants.tries import BAD, OTHER, PROVED, WEAK, Left, Try
 
-
 MOST = 96  # the edits of a check
 
 

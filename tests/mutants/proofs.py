@@ -6,6 +6,7 @@ from __future__ import annotations
 import dataclasses
 import re
 
+from tests.mutants.functions import indent_of
 
 # The line that begins a declaration in a proof file, and the other lines that begin a part of a proof file.
 DECLARES = re.compile(r"(?:pub )?(\S+) : ")
@@ -102,11 +103,6 @@ class Lemma:
     first: int
     proof: int
     end: int
-
-
-def indent_of(line: str) -> str:
-    """Returns the spaces at the start of a line."""
-    return line[: len(line) - len(line.lstrip(" "))]
 
 
 def behind(lines: list[str], at: int, indent: str) -> int:

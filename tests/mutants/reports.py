@@ -10,7 +10,6 @@ from dataclasses import dataclass, field
 from tests.mutants.functions import functions, homes
 from tests.mutants.proofs import answers, resting
 
-
 FALSE, NO_PROOF, TEXT = "false", "no proof", "text"
 
 # Lines of a check's output: a line with a place, and lines about a function, about a file, and about goals that were

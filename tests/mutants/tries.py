@@ -11,9 +11,8 @@ import pathlib
 import tempfile
 
 from tests.mutants.edits import Edit, copy_of
-from tests.mutants.functions import Function
+from tests.mutants.functions import Function, proofs_of
 from tests.mutants.reports import FALSE, NO_PROOF
-
 
 # The version of the grading. Raise it if a change of these modules may give an edit another grade: results of other
 # versions in CACHE are not used.
@@ -77,7 +76,7 @@ class Try:
 
     def answers_of(self, unit: str, texts: dict[str, str]) -> str:
         """Returns the crate's proof file with the answers of a function that the edit changes."""
-        return texts.get("proofs/" + unit.removesuffix(self.suffix).replace("::", "/") + "/Answers.antt", "")
+        return texts.get(proofs_of(unit.removesuffix(self.suffix)), "")
 
     def ends(self, grade: str, said: str = "", goal: str = "") -> None:
         """Notes the result of the edit."""
