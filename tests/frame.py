@@ -1,6 +1,7 @@
 # SPDX-License-Identifier: BSD-2-Clause-Patent
 """The frame of the tests by `unittest`: where the built files are, what a test needs, and how a test runs a command in a
-scratch folder. As a program, it runs the tests of a package and prints what failed and what was skipped, and why:
+scratch folder. As a program, it runs the tests of a package, or of one module (`tests.program.test_rows`), and prints what
+failed and what was skipped, and why:
 
     python3 -m tests.frame PACKAGE [NAME..]
 
@@ -99,9 +100,10 @@ def tests_in(suite: unittest.TestSuite) -> Iterator[unittest.TestCase]:
 
 
 def chosen(package: str, names: list[str]) -> unittest.TestSuite:
-    """Returns the tests of a package whose names begin with one of the names, or all of them."""
-    folder = ROOT / package.replace(".", "/")
-    found = list(tests_in(unittest.TestLoader().discover(str(folder), top_level_dir=str(ROOT))))
+    """Returns the tests of a package, or of one module, whose names begin with one of the names, or all of them."""
+    folder, loader = ROOT / package.replace(".", "/"), unittest.TestLoader()
+    suite = loader.discover(str(folder), top_level_dir=str(ROOT)) if folder.is_dir() else loader.loadTestsFromName(package)
+    found = list(tests_in(suite))
     short = {it: it.id().removeprefix(f"{package}.").removeprefix("test_") for it in found}
     wanted = [it for it in found if not names or any(fnmatch.fnmatch(short[it] + ".", f"{name}.*") for name in names)]
     lost = [it for it in found if type(it).__name__ == "_FailedTest" and it not in wanted]  # a module that is not read

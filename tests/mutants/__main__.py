@@ -233,7 +233,8 @@ def run(names: list[str], given: argparse.Namespace, checks: Checks, room: pathl
 
 def arguments() -> argparse.Namespace:
     """Reads the arguments of the command."""
-    reader = argparse.ArgumentParser(description="Tries the wrong bodies in crates/NAME/mutants/, many in each check.")
+    about = "Tries the wrong bodies in crates/NAME/mutants/, many in each check."
+    reader = argparse.ArgumentParser("python3 -m tests.mutants", description=about)
     reader.add_argument("crates", nargs="*", metavar="CRATE", help="a crate or one edit, CRATE/EDIT (else: all crates)")
     reader.add_argument("--jobs", type=int, default=jobs(), help="how many checks run side by side (now: %(default)s)")
     reader.add_argument("--every", action="store_true", help="tries also edits of private functions and of inner steps")
