@@ -23,6 +23,7 @@ from __future__ import annotations
 
 import concurrent.futures
 import hashlib
+import io
 import os
 import pathlib
 import re
@@ -126,26 +127,17 @@ def fail(what: str, said: str) -> typing.NoReturn:
     os._exit(1)
 
 
-class Said:
-    """The text that the kit writes about a crate. The kit's module for Python writes to this object as to a file."""
+class Said(io.StringIO):
+    """The text that the kit writes about a crate, and how many functions are checked so far, and how many there are, if
+    the kit has reported both numbers."""
 
-    def __init__(self) -> None:
-        self.parts: list[str] = []
-        # How many functions are checked, and how many there are, if the kit has reported both numbers.
-        self.checked, self.functions = 0, 0
+    checked = functions = 0
 
-    def write(self, text: str) -> None:
-        """Adds a text, and reads in it how many functions are checked so far."""
-        self.parts.append(text)
+    def write(self, text: str) -> int:
+        """Adds a text."""
         for found in SO_FAR.finditer(text):
             self.checked, self.functions = int(found[1]), int(found[2])
-
-    def flush(self) -> None:
-        """Does nothing, because no text is buffered."""
-
-    def text(self) -> str:
-        """Returns all of the text."""
-        return "".join(self.parts)
+        return super().write(text)
 
 
 class Plan:
@@ -284,7 +276,7 @@ def build_libraries(plan: Plan) -> None:
         for ended in first_of(runs, plan):
             crate = runs.pop(ended)
             if ended.result():
-                fail(f"{crate.name} is not proved", plan.said[crate].text())
+                fail(f"{crate.name} is not proved", plan.said[crate].getvalue())
             plan.end(crate)
 
 
@@ -317,7 +309,7 @@ def build(name: str, command: list[str]) -> None:
     if plan:
         first_of([last], plan)
     if last.result():
-        fail(f"{name} is not proved and made", said.text())
+        fail(f"{name} is not proved and made", said.getvalue())
 
 
 def main() -> int:

@@ -208,7 +208,11 @@ def jobs() -> int:
 
 def run(names: list[str], given: argparse.Namespace, checks: Checks, room: pathlib.Path) -> int:
     """Tries the edits of some crates. Returns the exit status."""
-    rtlib = kit.rtlib()
+    try:
+        rtlib = kit.rtlib()
+    except ImportError as error:
+        print(f"mutants: {error}")
+        return 2
     crates = [Crate(name, rtlib, room, checks) for name in names]
     tries = {crate.name: tries_of(crate, given) for crate in crates}
     left = [crate for crate in crates if any(not each.grade for each in tries[crate.name])]
