@@ -14,24 +14,17 @@ NAME is the goal as the checker prints it in backquotes, for example `returns-cl
 function that the edit changes. A line `goal: MODULE::FUNCTION NAME` names the function too: an edit of a constant needs
 this, and is tried on its own. Several pairs of old and new are one edit.
 
-The body of a function is proved from the contracts of the functions that it calls. So many edits share a check of a
-copy of the crate. In the copy, each edit changes a function of its own, which is put beside the original, has another
-name, and has the same contract and proof. Nothing calls it. A method of a trait and a function that calls itself cannot
-be copied in this way, so they are changed in place, one edit of each in a check. Imports are changed in place too: an
-edit may add names to them. A check proves only the changed functions (`rattle check --only`). All other functions have
-bodies that do nothing, and their theorems are given: a proof file states each of them as an axiom. The lemmas of the
-crate are given in the same way. So nothing that `rt ci` has proved is proved again. Given theorems can only let the
-checker prove more, so an edit that is rejected would be rejected without them. The checker may not try the goals of a function that calls a function changed in place:
-its edit then waits for a later check. A check has at most 96 edits. If a check ends without a verdict, it is repeated
-with half of its edits.
+Many edits share a check of a copy of the crate, because the body of a function is proved from the contracts of the
+functions that it calls. Each edit changes a copy of its function, which nothing calls, or is alone in changing a
+function in place. All that the edits do not change is given and not proved again: the theorems of the other functions,
+the lemmas of the crate, and all goals of a changed function except the goal that its edit names. This can only let the
+checker prove more, so an edit that is rejected would be rejected without it. docs/DECISIONS.md explains this and how
+long it takes (The gate's time).
 
-The checker looks only for a proof of the goal that the edit names, because in a large function most of the time of a
-check goes to searches for proofs that do not exist, and to answers of goals that the edit does not break. All other
-goals of the function are given. The goals that have answers are read from the proof files. Each edit has a line with
-the goals without an answer in crates/NAME/mutants/goals.txt, which `--write-lists` writes. An edit without a line takes
-one further check, which comes first and does not search (`#![tactic(none)]`): it tries the answers in the proof files,
-and lists the goals without an answer. If a line is out of date, a goal that it lacks is searched for, and a goal that
-no longer exists is not given.
+The goals that have answers are read from the proof files. Each edit has a line with the goals without an answer in
+crates/NAME/mutants/goals.txt, which `--write-lists` writes. An edit without a line takes one further check, which comes
+first and does not search (`#![tactic(none)]`): it tries the answers in the proof files, and lists the goals without an
+answer. If a line is out of date, a goal that it lacks is searched for, and a goal that no longer exists is not given.
 
 A new edit gets the whole search that Rattle makes for any function. It takes up to a minute if no proof exists. The
 edit gets its line in goals.txt only if no proof is found. An edit with a line is tried by a search that is cut short
@@ -95,9 +88,9 @@ import kit
 import prove
 from tests.checks import ROOT
 from tests.mutants.crates import Checks, Crate, link_libraries
-from tests.mutants.edits import Edit, applied, changed, read_edit
+from tests.mutants.edits import BAD, CACHE, REJECTED, TEXT, WEAK, Edit, Open, Try, applied, changed, keep, key_of
+from tests.mutants.edits import read_edit, read_lists, write_goal, write_lists
 from tests.mutants.judge import Judge
-from tests.mutants.tries import BAD, CACHE, REJECTED, WEAK, Left, Try, keep, key_of, read_lists, write_goal, write_lists
 from tests.mutants.unnamed import list_unnamed
 
 ROOM = 3_500_000  # the kB of memory that a check is expected to take
@@ -145,7 +138,7 @@ def tries_of(crate: Crate, given: argparse.Namespace) -> list[Try]:
             each.alone = bool(of) and changed(edit, crate.texts) != [of]
             each.copies(number)
             if edit.is_bare and len(each.owners) == 1:
-                each.left = Left(each.owners[0].unit, edit.goal)
+                each.left = Open(each.owners[0].unit, edit.goal, TEXT)
             if not each.owners:
                 each.ends(BAD, "it changes what is outside of a function, and its goal names none")
     return found

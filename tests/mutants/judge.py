@@ -5,11 +5,10 @@ from __future__ import annotations
 
 import collections
 
-from tests.mutants.crates import Crate
+from tests.mutants.crates import Crate, Report
+from tests.mutants.edits import BAD, FALSE, NO_PROOF, OTHER, PROVED, TEXT, WEAK, Open, Try
 from tests.mutants.functions import Function, around
 from tests.mutants.proofs import answers
-from tests.mutants.reports import FALSE, NO_PROOF, TEXT, Open, Report
-from tests.mutants.tries import BAD, OTHER, PROVED, WEAK, Left, Try
 
 MOST = 96  # the edits of a check
 
@@ -23,7 +22,11 @@ def is_of(unit: str, owner: Function) -> bool:
 
 
 class Judge:
-    """Tries the edits of one crate, in groups."""
+    """Tries the edits of one crate, in groups that share a check (rattle check --only). A method of a trait and a function
+    that calls itself cannot be copied, so they are changed in place, one edit of each in a check. Imports are changed in
+    place too: an edit may add names to them. The checker may not try the goals of a function that calls a function
+    changed in place: its edit then waits for a later check. If a check ends without a verdict, it is repeated with half of
+    its edits."""
 
     def __init__(self, crate: Crate, tries: list[Try]) -> None:
         """Prepares the groups."""
@@ -177,7 +180,7 @@ class Judge:
         if found.goal not in answers(each.answers_of(found.unit, self.crate.texts)):
             each.ends(OTHER, f"{found.goal} has no answer of its own to leave out")
             return
-        each.left = Left(found.unit, found.goal)
+        each.left = found
         self.left.append(each)
 
     def waits(self, each: Try, group: list[Try], report: Report) -> bool:

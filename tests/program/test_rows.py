@@ -40,8 +40,6 @@ TESTS = ["volumes", "command/other_runs", "command/opened_runs"]
 # The commands that have another name in the rows than in the program.
 COMMANDS = {"normalise-all": ["normalise", "--all"], "check-all": ["check", "--all"], "list-sums": ["list", "--sums"]}
 NAME = "0a0a0a0a-0a0a-0a0a-0a0a-0a0a0a0a0a0a"
-
-
 # A function that returns the part of an output that is compared.
 Look = Callable[[bytes], object]
 
@@ -67,14 +65,9 @@ def shown(data: bytes, is_hex: bool) -> bytes:
     return b"".join(data[at : at + 32].hex().encode() + b"\n" for at in range(0, len(data), 32))
 
 
-def is_text(words: str) -> bool:
-    """Returns whether an input is written as text."""
-    return words.startswith("'")
-
-
 def input_of(words: str, is_hex: bool) -> bytes:
-    """Returns the bytes of an input."""
-    if is_text(words):
+    """Returns the bytes of an input. An input that begins with an apostrophe is written as text."""
+    if words.startswith("'"):
         return words[1:].encode().decode("unicode_escape").encode("latin-1")
     return shown(rows.spelled(words), is_hex)
 
@@ -116,7 +109,7 @@ def runs_of(row: str, look: Look = bytes) -> Iterator[Run]:
     first, _, second = words.partition(" & ")
     status, _, text = wanted.partition(" ")
     for is_hex in (False, True):
-        if not is_hex and (is_text(first) or is_text(second)):
+        if not is_hex and "'" in first[:1] + second[:1]:
             continue
         label = row + " (--hex)" * is_hex
         given, other = input_of(first, is_hex), input_of(second, is_hex)
