@@ -33,8 +33,8 @@ def said(*words: str) -> str:
 
 
 def rtlib() -> typing.Any:
-    """Returns the kit's module, which has no types for mypy. Raises ImportError if the kit has no such module, or if the
-    module lacks a name that the scripts use."""
+    """Returns the kit's module, which has no types for mypy. Raises ImportError if the kit has no such module, or if
+    the module lacks a name that the scripts use."""
     sys.path.insert(0, str(folder() / "bin"))
     sys.dont_write_bytecode = True  # the kit's folder stays as it is
     module = importlib.import_module("rtlib")

@@ -44,8 +44,8 @@ ROOT = pathlib.Path(__file__).resolve().parent.parent
 MADE = {"fv_tool": ("fv_tool", ["run"]), "fv_c": ("libfv_c.a", ["lib", "--cpu=x86-64"])}
 # The command that a user runs to make the file of each crate.
 BUILDS = {"fv_tool": "./fvtool < crates/fv_tool/stdin", "fv_c": "libfv/build"}
-# About how many seconds the proof of a crate takes with one processor. The order of the builds and the reported share of
-# the work depend on this. A crate that is not listed takes USUAL.
+# About how many seconds the proof of a crate takes with one processor. The order of the builds and the reported share
+# of the work depend on this. A crate that is not listed takes USUAL.
 SECONDS = {
     "fv_base": 60, "fv_head": 100, "fv_file": 80, "fv_section": 45, "fv_depex": 60, "fv_hob": 75, "fv_text": 50, "fv_names": 45,
     "fv_placement": 35, "fv_sinks": 20, "fv_flash": 15, "fv_tree": 215, "fv_rows": 35, "fv_compare": 45, "fv_lines": 95,
@@ -181,8 +181,8 @@ class Plan:
         return max(found, 0 if self.running else 1) if len(self.running) < self.processors else 0
 
     def start(self) -> typing.Iterator[tuple[typing.Any, int, bool]]:
-        """Begins the crates that can be begun now, the longest chain first. Yields each crate, its number of processes, and
-        whether it has time to spare."""
+        """Begins the crates that can be begun now, the longest chain first. Yields each crate, its number of processes,
+        and whether it has time to spare."""
         ready = [it for it in self.left if it not in self.running and not self.left & {*it.below()}]
         longest = max(map(self.chain, [*ready, *self.running]), default=0)
         for crate in sorted(ready, key=self.chain, reverse=True):
@@ -219,8 +219,8 @@ class Plan:
         return int(100 * (1 - rest / self.work))
 
     def tell(self) -> None:
-        """Reports the progress of the build, if other crates are being built, if more functions are checked, or if it was
-        not reported for some time."""
+        """Reports the progress of the build, if other crates are being built, if more functions are checked, or if it
+        was not reported for some time."""
         now, waited = self.now(), time.monotonic() - self.told_at
         if now[0] == self.told[0] and waited < (LATE if now == self.told else SOON):
             return

@@ -12,8 +12,8 @@ ROOT = Path(__file__).resolve().parent.parent
 
 
 def settle(what: str, made: Iterable[tuple[Path, str]], is_written: bool, wrong: list[str]) -> None:
-    """Compares files with the texts that they should have. Adds the names of those that differ to the list, or writes the
-    texts, and then the files that libfv/generate makes. Ends the script with the list if it is not empty."""
+    """Compares files with the texts that they should have. Adds the names of those that differ to the list, or writes
+    the texts, and then the files that libfv/generate makes. Ends the script with the list if it is not empty."""
     for path, text in made:
         if not path.exists() or path.read_text(encoding="utf-8") != text:
             if is_written:

@@ -28,8 +28,8 @@ answer. If a line is out of date, a goal that it lacks is searched for, and a go
 
 A new edit gets the whole search that Rattle makes for any function. It takes up to a minute if no proof exists. The
 edit gets its line in goals.txt only if no proof is found. An edit with a line is tried by a search that is cut short
-(SEARCH). `--whole` tries these edits by the whole search too. If the line lacks the edit's own goal, and the goal has no
-answer, the whole search is made in each run: the output names these edits (`long search`).
+(SEARCH). `--whole` tries these edits by the whole search too. If the line lacks the edit's own goal, and the goal has
+no answer, the whole search is made in each run: the output names these edits (`long search`).
 
 The goals of the changed functions determine the grade of an edit:
 

@@ -179,8 +179,8 @@ class Checks:
         self.stopped, self.count = False, 0
 
     def run(self, words: list[str], folder: pathlib.Path, label: str) -> tuple[int, str]:
-        """Runs one check. Returns its status and its output. The command `timeout` ends the check and all that it started
-        after LIMIT seconds, or when it is ended itself."""
+        """Runs one check. Returns its status and its output. The command `timeout` ends the check and all that it
+        started after LIMIT seconds, or when it is ended itself."""
         how: dict[str, typing.Any] = {"stdin": subprocess.DEVNULL, "stdout": subprocess.PIPE}
         how.update(stderr=subprocess.STDOUT, cwd=folder, text=True, errors="replace")
         with self.lock:
@@ -284,9 +284,9 @@ class Crate:
         return f"Rattle.{self.name}.proofs.{unit.replace('::', '.')}"
 
     def with_given(self, texts: dict[str, str], given: set[str], group: list[Try]) -> dict[str, str]:
-        """Returns the texts with an axiom for each given theorem, in place of its answers, and for each goal of a changed
-        function except the goal that has to stay open. If that goal has no answer, it may get a search that is cut
-        short. If the goals are not listed yet, the texts switch the search off."""
+        """Returns the texts with an axiom for each given theorem, in place of its answers, and for each goal of a
+        changed function except the goal that has to stay open. If that goal has no answer, it may get a search that is
+        cut short. If the goals are not listed yet, the texts switch the search off."""
         texts = {**stubbed(texts, given), **self.lemmas}
         for it in [it for it in self.paths.values() if it.unit in given]:
             for file in ("Answers.antt", "Invariants.antt"):

@@ -8,8 +8,8 @@ import re
 
 from tests.sources.definitions import FUNCTION
 
-# Patterns for lines of a source: the attribute of a function that is proved with others, the first line of an `impl` or a
-# trait, the first line of a type, and an import.
+# Patterns for lines of a source: the attribute of a function that is proved with others, the first line of an `impl` or
+# a trait, the first line of a type, and an import.
 CYCLE = re.compile(r"\s*#\[cycle\((\w+)\)\]")
 HOLDER = re.compile(r"(?:pub(?:\([^)]*\))? )?(impl|trait)\b")
 TYPE = re.compile(r"(?m)^(?:pub(?:\([^)]*\))? )?(?:struct|enum) (\w+)")

@@ -22,11 +22,11 @@ def is_of(unit: str, owner: Function) -> bool:
 
 
 class Judge:
-    """Tries the edits of one crate, in groups that share a check (rattle check --only). A method of a trait and a function
-    that calls itself cannot be copied, so they are changed in place, one edit of each in a check. Imports are changed in
-    place too: an edit may add names to them. The checker may not try the goals of a function that calls a function
-    changed in place: its edit then waits for a later check. If a check ends without a verdict, it is repeated with half of
-    its edits."""
+    """Tries the edits of one crate, in groups that share a check (rattle check --only). A method of a trait and a
+    function that calls itself cannot be copied, so they are changed in place, one edit of each in a check. Imports are
+    changed in place too: an edit may add names to them. The checker may not try the goals of a function that calls a
+    function changed in place: its edit then waits for a later check. If a check ends without a verdict, it is repeated
+    with half of its edits."""
 
     def __init__(self, crate: Crate, tries: list[Try]) -> None:
         """Prepares the groups."""

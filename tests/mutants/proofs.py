@@ -95,8 +95,8 @@ def resting(text: str, name: str) -> set[str]:
 
 @dataclasses.dataclass(frozen=True)
 class Lemma:
-    """A declaration of a file of lemmas that a proof follows: its name, its indentation, its first line, the line behind
-    its type, and the line behind its proof."""
+    """A declaration of a file of lemmas that a proof follows: its name, its indentation, its first line, the line
+    behind its type, and the line behind its proof."""
 
     name: str
     indent: str
@@ -109,10 +109,11 @@ def behind(lines: list[str], at: int, indent: str) -> int:
     """Returns the line behind the lines from `at` on that continue a declaration or a clause with this indentation."""
     end = at
     while end < len(lines):
-        is_deeper = len(indent_of(lines[end])) > len(indent) or lines[end].startswith(tuple(indent + it for it in ")]}"))
-        if lines[end].strip() and is_deeper:
+        line = lines[end]
+        is_deeper = len(indent_of(line)) > len(indent) or line.startswith(tuple(indent + it for it in ")]}"))
+        if line.strip() and is_deeper:
             at = end + 1
-        elif lines[end].strip():
+        elif line.strip():
             break
         end += 1
     return at

@@ -1,8 +1,8 @@
 /* SPDX-License-Identifier: BSD-2-Clause-Patent */
 /* This object is loaded into a program. It refuses the program's allocation with the number REFUSE_AT, counted from 1,
    and no allocation if that is 0. When the program ends, five numbers are written to the descriptor REPORT: the most
-   bytes that the program held at one time, the number of allocations that it asked for, whether one was refused, and the
-   sizes of the two allocations after the refused allocation. */
+   bytes that the program held at one time, the number of allocations that it asked for, whether one was refused, and
+   the sizes of the two allocations after the refused allocation. */
 #include <malloc.h>
 #include <stddef.h>
 #include <stdlib.h>

@@ -28,8 +28,8 @@ FIRST, SECOND = f"{FILES} 5a ff*19", f"{FILES} 5b ff*19"
 INPUTS = {
     "volume": "two-sections",
     "depex": "depex-fault",
-    "list": "PHIT 0900380000000000 0000ff0000000000 8000000000000000 0e*16 0a*16 feff080000000000 0400200000000000 0c*16"
-    " 0102030405060708 ffff080000000000",
+    "list": "PHIT 0900380000000000 0000ff0000000000 8000000000000000 0e*16 0a*16"
+    " feff080000000000 0400200000000000 0c*16 0102030405060708 ffff080000000000",
     "first": FIRST,
     "second": SECOND,
     "both": f"{FIRST} {SECOND}",
@@ -181,8 +181,8 @@ class Libraries(MemoryCase):
         """Runs a test with each of its allocations refused in turn. The code that starts a test takes no memory of its
         own, so the first allocation is the test's. A call that reports a refused allocation asks for no more, so the
         test then asks for no more than usual. There is one exception: if an allocation for the bytes that a test spells
-        for a call is refused, the test spells them again from their start. It asks for one more allocation than usual if
-        the first allocation of a spelling was refused, for two more if the second was refused, and so on. A spelling
+        for a call is refused, the test spells them again from their start. It asks for one more allocation than usual
+        if the first allocation of a spelling was refused, for two more if the second was refused, and so on. A spelling
         takes at least two allocations. If any other test asks for more, one of its calls asked again after its
         allocation was refused, which hides the failure. This check does not notice a call that goes on without the
         memory."""
@@ -193,7 +193,8 @@ class Libraries(MemoryCase):
             asked, is_refused = self.asked(tests, name, at)
             more = max(asked - usual, 0)
             if more != before + 1 and (more > 1 or before == 1):
-                self.fail(f"an allocation is asked for again: {at - 1} or {at} refused: {before} and {more} more than usual")
+                refused = f"{at - 1} or {at} refused: {before} and {more} more than usual"
+                self.fail(f"an allocation is asked for again: {refused}")
             before = more
         self.assertFalse(is_refused, "the test takes more memory in one run than in another")
 

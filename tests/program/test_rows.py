@@ -370,8 +370,8 @@ CALLS: list[tuple[str, str, Callable[[str], Iterator[Run]]]] = [
 
 @needs_program
 class RowCase(unittest.TestCase):
-    """The runs of a row, or of rows that belong together. Its name has the file of the row, the heading if there is one,
-    and the number of the row below it."""
+    """The runs of a row, or of rows that belong together. Its name has the file of the row, the heading if there is
+    one, and the number of the row below it."""
 
     def __init__(self, method: str = "test_runs", name: str = "none", runs: Iterable[Run] = ()) -> None:
         super().__init__(method)

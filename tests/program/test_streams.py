@@ -84,7 +84,8 @@ class Streams(RoomCase):
 
     @needs_tool(COMPILER, "gcc")
     def test_output_fails(self) -> None:
-        """Standard output is full, or each write is interrupted, with short texts, which are buffered, and long ones."""
+        """Standard output is full, or each write is interrupted, with short texts, which are buffered, and long
+        ones."""
         interrupt = preloaded("interrupt_writes.c", self.room)
         for command in ("scan", "normalise --all"):
             for file in (VOLUME, "long.hex"):
@@ -132,8 +133,8 @@ class Streams(RoomCase):
 
 @dataclass(frozen=True)
 class Case:
-    """A run: its arguments, its status, its output, its text on standard error at a terminal, and that text elsewhere if
-    it is another one. If a text is typed, standard input is a terminal. Otherwise standard input is the file."""
+    """A run: its arguments, its status, its output, its text on standard error at a terminal, and that text elsewhere
+    if it is another one. If a text is typed, standard input is a terminal. Otherwise standard input is the file."""
 
     words: list[str]
     status: int
@@ -184,7 +185,8 @@ WRONG: list[tuple[list[str], str]] = [
     (["list", "\udcff"], "argument 2 is not UTF-8"),
 ]
 # Arguments that ask for help, or for the version.
-HELPED = [[*before, it] for before in ((), ("list",)) for it in ("--help", "-h", "--version")] + [["help"], ["list", "-hx"]]
+HELPED = [[*before, it] for before in ((), ("list",)) for it in ("--help", "-h", "--version")]
+HELPED += [["help"], ["list", "-hx"]]
 
 
 def wrong_cases() -> list[Case]:
@@ -200,8 +202,9 @@ def wrong_cases() -> list[Case]:
 
 @dataclass(frozen=True)
 class Rejection:
-    """An input that is rejected: the words of the rows that spell it, the command, in which FILE is the input and VOLUME
-    a volume as text, the fault, and what to do next. The meaning of the fault is in FAULTS, unless it is given."""
+    """An input that is rejected: the words of the rows that spell it, the command, in which FILE is the input and
+    VOLUME a volume as text, the fault, and what to do next. The meaning of the fault is in FAULTS, unless it is
+    given."""
 
     spelling: str
     command: str
@@ -218,6 +221,7 @@ GOES_ON = "fvtool check --all goes on with the other volumes; fv-same, fv-unpack
 NO_IMAGE = "fvtool list and fvtool compare need no image"
 # The header of a volume of 128 bytes, with a header length of 2112 bytes.
 LONG_HEADER = "00*16 78e58c8c3d8a1c4f9935896185c32dd3 80 00*7 5f465648fffe0400 4008cef500000002 0100000080000000 00*8"
+LENGTH = "the length in the header of a volume is wrong"
 TWO, FOLLOW = "two-sections two-sections", "bytes follow the volume"
 REJECTIONS = [
     Rejection("616263", "list FILE", "fault 1 at 3", "is the file whole? fvtool scan FILE finds volumes"),
@@ -225,7 +229,7 @@ REJECTIONS = [
     Rejection("head-file-system", "list FILE", "fault 3 at 16", LOOK),
     Rejection(f"H256 0a*16 b9aa0b009c0000f884000017 {LONG_HEADER} ff*84", "list FILE", "fault 1 at 228", SOURCE),
     Rejection("head-sum-off-by-one", "list FILE", "fault 6 at 0", SOURCE),
-    Rejection("head-length-over-256m", "list FILE", "fault 8 at 32", SOURCE, "the length in the header of a volume is wrong"),
+    Rejection("head-length-over-256m", "list FILE", "fault 8 at 32", SOURCE, LENGTH),
     Rejection(TWO, "check FILE", "fault 8 at 128", "try --at 0, or --all", FOLLOW),
     Rejection(TWO, "normalise FILE", "fault 8 at 128", "try --at 0, or --all", FOLLOW),
     Rejection(TWO, "unfix FILE", "fault 8 at 128", "try --at 0", FOLLOW),
