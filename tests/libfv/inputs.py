@@ -1,6 +1,6 @@
 # SPDX-License-Identifier: BSD-2-Clause-Patent
 """The inputs of the tests of the library: the bytes that rows of crates/fv_run_tests/rows spell, inputs that
-tests/fuzz/fuzz.py makes, and texts that are nearly a GUID."""
+tests/fuzz/cases.py makes, and texts that are nearly a GUID."""
 
 from __future__ import annotations
 
@@ -8,7 +8,7 @@ from collections.abc import Iterator
 from pathlib import Path
 
 import rows
-from tests.fuzz.fuzz import make_case
+from tests.fuzz.cases import make_case
 
 # The files of rows whose words spell the input of a run or of a call.
 TABLES = (
