@@ -23,6 +23,7 @@ CC, CXX = os.environ.get("CC", "cc"), os.environ.get("CXX", "c++")
 WARN = ["-O1", "-g", "-Wall", "-Wextra", "-Werror", "-pedantic", f"-I{ROOT / 'libfv/include'}"]
 SANITIZED = {"ASAN_OPTIONS": "detect_leaks=0:allocator_may_return_null=1", "UBSAN_OPTIONS": "halt_on_error=1"}
 PLANTS = range(1, 18)
+LONG = 4_000_000  # bytes; longer made inputs are not shown to the examples
 
 
 def can_compile(language: str, *command: str) -> bool:
@@ -147,7 +148,7 @@ class Examples(Compiled):
         for name, (data, _) in made.items():
             (self.room / name).write_bytes(data)
         found = {str(self.room / name): (0, end) for name, (_, end) in made.items()}
-        for number, data in enumerate(inputs.made(7, 60)):
+        for number, data in enumerate(it for it in inputs.made(7, 60) if len(it) <= LONG):
             (self.room / f"{number}.input").write_bytes(data)
             found[str(self.room / f"{number}.input")] = 0, ""
         for name in "", "missing":
