@@ -97,7 +97,8 @@ bool try_comparison(struct input a, struct input b, const uint8_t *parameters)
     fv_result result = try_rows(&rows, text, &count, &fault);
     CHECK(!result == !back, "compare: %u, and the other way %u", result, back);
     CHECK(!memcmp(&found, &found_back, sizeof found) && !strncmp(text, other, sizeof text), "compare: both ways");
-    saw(SEEN_PAIR, result, fault.input, 0);
+    /* Other inputs are also compared, with themselves. They are not kept for that. */
+    if (parameters[MODE] % MODES == AS_PAIR) saw(SEEN_PAIR, result, fault.input, 0);
     if (result) {
         check_fault(a, b, result, &fault);
         return false;
