@@ -26,7 +26,8 @@ class Beside(RoomCase):
     def same(self, wanted: said.Said, *words: str, given: bytes = b"") -> None:
         """Checks the status and the output of a run, which gets some bytes on standard input."""
         run = subprocess.run([PROGRAM, *words], input=given, capture_output=True, check=False)
-        self.assertEqual((run.returncode, run.stdout), wanted, words)
+        self.assertEqual(run.returncode, wanted[0], words)
+        self.assertEqual(run.stdout, wanted[1], words)
 
     @classmethod
     def setUpClass(cls) -> None:

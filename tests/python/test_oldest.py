@@ -51,7 +51,7 @@ class Oldest(RoomCase):
         words = (sys.executable, "-m", "tests.python.said", *names)
         wanted, found = self.run_command(*words), self.run_command(*OLDEST, *words)
         self.assertEqual((wanted.returncode, wanted.stderr, len(wanted.stdout) > 1000), (0, "", True))
-        self.assertEqual((found.returncode, found.stderr, found.stdout), (0, "", wanted.stdout))
+        self.assertEqual((found.returncode, found.stderr, found.stdout == wanted.stdout), (0, "", True))
 
     @needs_tool(OLDEST[0], "qemu-user-static")
     @needs_tool(os.environ.get("CC", "cc"))

@@ -9,7 +9,7 @@ import dataclasses
 import hashlib
 import unittest
 import uuid
-from collections.abc import Iterator
+from collections.abc import Iterator, Sequence
 
 import fv
 import rows
@@ -114,12 +114,19 @@ class TreeCase(unittest.TestCase):
 
     maxDiff = None
 
+    def same(self, found: Sequence[object], wanted: Sequence[object]) -> None:
+        """Checks that two sequences have the same items. (assertEqual would take minutes to show how long lists
+        differ.)"""
+        self.assertEqual(len(found), len(wanted))
+        for row, (it, other) in enumerate(zip(found, wanted)):
+            self.assertEqual(it, other, row)
+
     def check_tree(self, data: bytes) -> None:
         """Checks that the rows of the tree agree with the reader of this module."""
         reader = Reader(data)
         reader.add_volume(0, len(data), None)
-        nodes = list(fv.volume_tree(data))
-        self.assertEqual(nodes, reader.rows)
+        nodes = fv.volume_tree(data)
+        self.same(nodes, reader.rows)
         self.assertEqual({(type(it.kind), type(it.content)) for it in nodes}, {(fv.NodeKind, fv.Content)})
 
     def check_parts(self, data: bytes) -> None:
@@ -139,12 +146,12 @@ class TreeCase(unittest.TestCase):
                 self.assertEqual(fv.volume_extract(data, row), stored[row])
             return
         parts = [image[it.offset : it.offset + it.length] for it in fv.volume_tree(image)]
-        self.assertEqual([fv.volume_extract(data, row) for row in range(len(nodes))], parts)
-        self.assertEqual([stored[row] for row in leaves], [parts[row] for row in leaves])
+        self.same([fv.volume_extract(data, row) for row in range(len(nodes))], parts)
+        self.same([stored[row] for row in leaves], [parts[row] for row in leaves])
         holders = {*sections} - {*leaves}
         wanted = [None if row in holders else hashlib.sha256(it).digest() for row, it in enumerate(parts)]
-        self.assertEqual(fv.volume_tree_digests(data), wanted)
-        self.assertEqual(fv.volume_tree_digests(image), wanted)
+        self.same(fv.volume_tree_digests(data), wanted)
+        self.same(fv.volume_tree_digests(image), wanted)
         self.assertEqual(fv.volume_digest(data), wanted[0])
 
 
@@ -231,11 +238,12 @@ class Inputs(TreeCase):
                 if not isinstance(whole, fv.Fault):
                     self.assertEqual(len(whole), len(data))
                 if not isinstance(unfixed, fv.Fault):
-                    self.assertEqual((len(unfixed), fv.volume_unfix(unfixed)), (len(data), unfixed))
+                    self.assertEqual(len(unfixed), len(data))
+                    self.assertEqual(fv.volume_unfix(unfixed), unfixed)
                     self.assertNotIsInstance(outcome(fv.volume_cells, unfixed), fv.Fault)
                 if not isinstance(image, fv.Fault):
                     images += 1
-                    self.assertEqual((unfixed, whole), (data, image))
+                    self.same([unfixed, whole], [data, image])
                     self.assertTrue(fv.volume_is_canonical(image))
                     self.assertEqual(fv.volume_is_canonical(data), image == data)
                     self.assertIsNone(fv.volume_compare(data, image))

@@ -202,11 +202,12 @@ class Crates(RoomCase):
         self.assertEqual((run.returncode, run.stderr), (0, ""))
         found = run.stdout.splitlines()
         self.assertEqual(len(found), len(asked))
+        wrong = []
         for (call, arguments), line in zip(asked, found):
             wanted = result_of(call, arguments)
             if line != wanted:
-                with self.subTest(call, arguments=[word(it)[:300] for it in arguments]):
-                    self.assertEqual(line[:3000], wanted[:3000])
+                wrong.append(f"{call} {[word(it)[:300] for it in arguments]}: {line[:1000]}, and not {wanted[:1000]}")
+        self.assertFalse(wrong, f"{len(wrong)} results: " + "\n".join(wrong[:10]))
 
     @needs_tool("readelf", "binutils")
     def test_linked(self) -> None:
