@@ -11,7 +11,7 @@ from typing import Any
 import fv
 import rows
 from tests import making
-from tests.fuzz import fuzz
+from tests.fuzz.cases import make_case
 
 Call = Callable[..., Any]
 # The calls whose only argument is a volume, or an image.
@@ -58,7 +58,7 @@ def made() -> dict[str, bytes]:
     """Returns inputs by their names: made images, inputs of the fuzzer (which are valid, nearly valid and broken), an
     image of two volumes, a volume that was written by hand, and no bytes."""
     found = {name: make() for name, make in making.IMAGES.items()}
-    found |= {f"input {number} of the fuzzer": fuzz.make_case(7, number).data for number in range(60)}
+    found |= {f"input {number} of the fuzzer": make_case(7, number).data for number in range(60)}
     empty = rows.spelled("empty")
     return found | {"two volumes": bytes(64) + empty + bytes(8) + empty, "grouped": grouped(), "no bytes": b""}
 

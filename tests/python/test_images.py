@@ -53,7 +53,7 @@ def packed_file(data: bytes) -> bytes:
 def brotli_file(data: bytes, length: int) -> bytes:
     """Returns a volume with one file that holds a section of Brotli data, whose header says how long the contents
     are."""
-    packed = made.guided(uuid.UUID("3d532050-5cda-4fd0-879e-0f7f630d5afb"), struct.pack("<QQ", length, 0) + data)
+    packed = made.guided(made.BROTLI, data, fields=struct.pack("<QQ", length, 0))
     return made.volume([made.file(made.guid(1), packed, made.FREEFORM)])
 
 
@@ -224,8 +224,8 @@ class Images(unittest.TestCase):
             (made.guided(made.LZMA, whole + b"more"), "4 bytes follow the packed data"),
             (made.checked(text), None),
             (made.checked(text, 1), "the CRC32 is wrong"),
-            (made.section(0x01, struct.pack("<IB", len(text), 0) + text), None),
-            (made.section(0x01, struct.pack("<IB", 5, 0) + text), other),
+            (made.compression(text), None),
+            (made.compression(text, 5), other),
         ):
             (file,) = images.read(made.volume([made.file(made.guid(1), packed, made.FREEFORM)])).volumes[0].files
             opened = file.sections[0].opened
@@ -281,7 +281,7 @@ class Images(unittest.TestCase):
         for width in (4, 5):
             packed = made.packed_by_tiano(driver, width)
             self.assertEqual(names_of(packed_file(head + packed)), ["Old"])
-            guided = made.guided(uuid.UUID("a31280ad-481e-41b6-95e8-127f4c984779"), packed)
+            guided = made.guided(made.TIANO, packed)
             found = names_of(made.volume([made.file(made.guid(1), guided, made.FREEFORM)]))
             self.assertEqual(found, ["Old"] * (width == 5))
             slow = closed_in(packed_file(head + packed), Limits(slow=4000))
