@@ -23,8 +23,9 @@ NEWER = re.compile(
     |v|andn$|bextr|bls|bzhi|pdep|pext$|mulx|rorx|s[ah][lr]x|adcx|adox|sha(1|256)|aes|pclmul""",
     re.VERBOSE,
 )
-# The tests in C that are run on the oldest processor, with the archive in them.
-PROGRAMS = ("depex", "guid", "layout", "unfix")
+# The tests in C that are run on the oldest processor, with the archive in them: their results were worked out by hand.
+NAMES = ("depex", "fields", "guid", "layout", "unfix")
+PROGRAMS = [it for it in NAMES if (ROOT / f"tests/libfv/{it}.c").exists()]
 OLDEST = ("qemu-x86_64-static", "-cpu", "qemu64,-sse3,-cx16")
 # How many of the made inputs are tried, and how long they may be.
 TRIED, MOST = 20, 5000
@@ -56,6 +57,7 @@ class Oldest(RoomCase):
     @needs_tool(OLDEST[0], "qemu-user-static")
     @needs_tool(os.environ.get("CC", "cc"))
     def test_programs(self) -> None:
+        self.assertTrue(PROGRAMS)
         for name in PROGRAMS:
             source = ROOT / f"tests/libfv/{name}.c"
             words = ("-std=c11", "-O1", "-static", f"-I{ROOT}/libfv/include", "-o", name, source)
