@@ -380,11 +380,14 @@ class RowCase(unittest.TestCase):
     def id(self) -> str:
         return f"{__name__}.{self.name}"
 
+    __str__ = id
+
     def test_runs(self) -> None:
-        """Makes the runs side by side. Each run with an endless input takes 512 MB, so these follow one another."""
+        # The runs are made side by side. Each run with an endless input takes 512 MB, so these follow one another.
         with concurrent.futures.ThreadPoolExecutor(1 if self.name.startswith("endless.") else os.cpu_count()) as pool:
             wrong = [*filter(None, pool.map(fault_of, self.runs))]
-        self.assertFalse(wrong, "\n".join([f"{len(wrong)} runs are wrong:", *wrong[:20]]))
+        if wrong:
+            self.fail("\n".join([f"{len(wrong)} runs are wrong:", *wrong[:20]]))
 
 
 class Tables(unittest.TestCase):
