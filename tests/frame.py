@@ -62,8 +62,15 @@ class RoomCase(unittest.TestCase):
 
     def run_command(self, *words: str | Path, **more: Any) -> subprocess.CompletedProcess[str]:
         """Runs a command. Both streams are kept apart, and `env` is added to the environment."""
-        more["env"] = {**os.environ, **more.get("env", {})}
-        return subprocess.run(words, **{"capture_output": True, "text": True, "errors": "surrogateescape"} | more)
+        env = {**os.environ, **more.pop("env", {})}
+        how: dict[str, Any] = {"capture_output": True, "text": True, "errors": "surrogateescape", **more}
+        return subprocess.run(words, env=env, **how)
+
+    def runs(self, status: int, *words: str | Path, **more: Any) -> str:
+        """Runs a command, checks its status, and returns what it writes to standard output."""
+        said = self.run_command(*words, **more)
+        self.assertEqual(said.returncode, status, f"{words}: {said.stdout}{said.stderr}")
+        return str(said.stdout)
 
     def expect(self, status: int, text: str, *words: str | Path, **more: Any) -> None:
         """Runs a command, and checks its status and what it writes to both streams together."""
@@ -87,7 +94,7 @@ class Result(unittest.TextTestResult):
     def stopTest(self, test: unittest.TestCase) -> None:
         super().stopTest(test)
         if self.showAll:
-            self.stream.writeln(f"    {time.monotonic() - self.began:.1f} s")
+            self.stream.write(f"    {time.monotonic() - self.began:.1f} s\n")
 
 
 def tests_in(suite: unittest.TestSuite) -> Iterator[unittest.TestCase]:
@@ -132,6 +139,7 @@ def main() -> int:
     suite = chosen(package, names)
     if not suite.countTestCases():
         sys.exit(f"no test of {package} has the name {' '.join(names)}")
+    unittest.installHandler()  # after Ctrl-C, the classes still remove their folders
     result = unittest.TextTestRunner(sys.stdout, verbosity=2 if names else 1, resultclass=Result, buffer=True).run(suite)
     say_skipped(package, result)
     wrong = len(result.failures) + len(result.errors)
