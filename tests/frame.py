@@ -106,13 +106,18 @@ def tests_in(suite: unittest.TestSuite) -> Iterator[unittest.TestCase]:
             yield it
 
 
+def short(test: unittest.TestCase, package: str) -> str:
+    """Returns the name of a test of a package, without the names of the package and `test_`."""
+    return test.id().removeprefix(f"{package}.").removeprefix("test_")
+
+
 def chosen(package: str, names: list[str]) -> unittest.TestSuite:
     """Returns the tests of a package, or of one module, whose names begin with one of the names, or all of them."""
     folder, loader = ROOT / package.replace(".", "/"), unittest.TestLoader()
     suite = loader.discover(str(folder), top_level_dir=str(ROOT)) if folder.is_dir() else loader.loadTestsFromName(package)
     found = list(tests_in(suite))
-    short = {it: it.id().removeprefix(f"{package}.").removeprefix("test_") for it in found}
-    wanted = [it for it in found if not names or any(fnmatch.fnmatch(short[it] + ".", f"{name}.*") for name in names)]
+    patterns = [f"{it}.*" for it in names or ["*"]]
+    wanted = [it for it in found if any(fnmatch.fnmatch(f"{short(it, package)}.", pattern) for pattern in patterns)]
     lost = [it for it in found if type(it).__name__ == "_FailedTest" and it not in wanted]  # a module that is not read
     return unittest.TestSuite([*wanted, *lost])
 
@@ -122,7 +127,7 @@ def say_skipped(name: str, result: unittest.TestResult) -> None:
     groups: dict[tuple[str, str], list[str]] = {}
     for test, why in result.skipped:
         # A class that is skipped as a whole is one thing, and so are the tests of a class with one reason.
-        holder, _, method = test.id().removeprefix(f"{name}.").removeprefix("test_").rpartition(".")
+        holder, _, method = short(test, name).rpartition(".")
         groups.setdefault((holder, why), []).append(method)
     for (holder, why), methods in groups.items():
         skip(name.removeprefix("tests."), f"{holder} ({len(methods)} tests: {', '.join(methods)})", why)

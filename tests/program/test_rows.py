@@ -1,5 +1,6 @@
 # SPDX-License-Identifier: BSD-2-Clause-Patent
-"""Runs each row of crates/fv_run_tests/rows over the program. Each row is a test, as in `rows.list.12`.
+"""Runs each row of crates/fv_run_tests/rows over the program. Each row is a test: `list.12` is the 12th row of list.rows,
+and `two-sections` is the volume of this name.
 
 A row is run over bytes and over hexadecimal text, which --hex reads. It is run only over text if an input is written as
 text. The first input is a file, and is then also given on standard input if the command can read it there. The status
@@ -380,11 +381,14 @@ class RowCase(unittest.TestCase):
     def id(self) -> str:
         return f"{__name__}.{self.name}"
 
+    __str__ = id
+
     def test_runs(self) -> None:
-        """Makes the runs side by side. Each run with an endless input takes 512 MB, so these follow one another."""
+        # The runs are made side by side. Each run with an endless input takes 512 MB, so these follow one another.
         with concurrent.futures.ThreadPoolExecutor(1 if self.name.startswith("endless.") else os.cpu_count()) as pool:
             wrong = [*filter(None, pool.map(fault_of, self.runs))]
-        self.assertFalse(wrong, "\n".join([f"{len(wrong)} runs are wrong:", *wrong[:20]]))
+        if wrong:
+            self.fail("\n".join([f"{len(wrong)} runs are wrong:", *wrong[:20]]))
 
 
 class Tables(unittest.TestCase):
@@ -410,7 +414,7 @@ def row_cases() -> Iterator[tuple[str, Iterator[Run]]]:
         for number, row in enumerate(FILES[file][heading], 1):
             yield ".".join(filter(None, (file, heading, str(number)))), call(row)
     for name, image in rows.images():
-        yield f"volumes.{name}", image_runs(name, image)
+        yield name, image_runs(name, image)
     for (heading, table), fault in zip(FILES["lengths"].items(), (0, 4, 2)):
         yield f"lengths.{heading}", length_runs(table, fault)
     yield "read", read_runs()
