@@ -59,8 +59,10 @@ class Unbuilt(InstallCase):
     def test_kit(self) -> None:
         """Without the kit, each command that needs it names what can be installed without it."""
         folder = self.room / "without kit"
-        shutil.copytree("/usr/bin", folder, copy_function=os.symlink)
-        (folder / "rt").unlink(missing_ok=True)
+        folder.mkdir()
+        for tool in Path("/usr/bin").iterdir():
+            if tool.name != "rt":
+                (folder / tool.name).symlink_to(tool)
         for command in ("./fvtool", "libfv/build", ".ci/run", "make"):
             said = self.run_command(command, cwd=self.tree, env={"PATH": str(folder)}, stdin=subprocess.DEVNULL)
             self.assertNotEqual(said.returncode, 0, command)
@@ -235,16 +237,16 @@ class Installed(InstallCase):
         shutil.copy(EXAMPLE, project)
 
         def build(version: str, status: int = 0) -> None:
-            shutil.rmtree("built", ignore_errors=True)
+            shutil.rmtree("project/build", ignore_errors=True)
             (project / "CMakeLists.txt").write_text(PROJECT.format(version))
-            self.runs(status, "cmake", "-S", project, "-B", "built", f"-DCMAKE_PREFIX_PATH={self.below}")
+            self.runs(status, "cmake", "-S", project, "-B", "project/build", f"-DCMAKE_PREFIX_PATH={self.below}")
 
         for is_shared in (True, False):
             build(NUMBERS)
-            self.runs(0, "cmake", "--build", "built")
-            self.try_program(["built/volumes"])
-            self.try_program(["built/archived"])
-            found = self.runs(0, "readelf", "-d", "built/volumes")
+            self.runs(0, "cmake", "--build", "project/build")
+            self.try_program(["project/build/volumes"])
+            self.try_program(["project/build/archived"])
+            found = self.runs(0, "readelf", "-d", "project/build/volumes")
             self.assertEqual(bool(re.search("NEEDED.*libfv.so.2", found)), is_shared)
             for path in library.glob("libfv.so*") if is_shared else ():
                 path.rename(moved / path.name)
