@@ -76,6 +76,7 @@ class InstallCase(ImageCase):
 
     is_built = True
     tree: Path
+    before: list[str]
 
     @classmethod
     def setUpClass(cls) -> None:
@@ -87,14 +88,16 @@ class InstallCase(ImageCase):
             place = cls.tree / path.relative_to(ROOT)
             place.parent.mkdir(exist_ok=True)
             shutil.copy2(path, place)
+        cls.before = below(cls.tree)
+
+    def setUp(self) -> None:
+        super().setUp()
+        self.addCleanup(lambda: self.assertEqual(below(self.tree), self.before))  # no file may appear in the tree
 
     @classmethod
     def make(cls, *words: str | Path, status: int = 0, says: str = "") -> None:
-        """Runs make in the tree, in which no file may appear."""
-        before = below(cls.tree)
+        """Runs make in the tree, and checks its status and that it says something."""
         words = ("make", "-C", cls.tree, *words)
         said = subprocess.run(words, stdout=subprocess.PIPE, stderr=subprocess.STDOUT, text=True, check=False)
         if said.returncode != status or says not in said.stdout:
             raise AssertionError(f"{words} ended with {said.returncode}: {said.stdout}")
-        if below(cls.tree) != before:
-            raise AssertionError(f"{words} changed the tree")

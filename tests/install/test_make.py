@@ -72,6 +72,7 @@ class Unbuilt(InstallCase):
     @unittest.skipIf(os.getuid(), "not run by root")
     def test_other_user(self) -> None:
         """Another user runs the built program, also if a source has a newer date and the same bytes."""
+        self.addCleanup(shutil.rmtree, self.tree / "crates/fv_tool/out")
         (self.tree / PROGRAM).parent.mkdir()
         shutil.copy(ROOT / PROGRAM, self.tree / PROGRAM)
         self.runs(0, self.tree / "tools/prove.py", "fv_tool")  # writes the sum of the sources, which are older

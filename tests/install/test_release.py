@@ -109,6 +109,7 @@ class Archive(InstallCase):
     def test_gate(self) -> None:
         """`make release` stops unless the gate has passed over the same files and has skipped nothing."""
         tool = self.tree / "tools/statement"
+        self.addCleanup(shutil.rmtree, self.tree / "out")
         Path("lines").write_text("1 passed, 0 failed\n")
         for status, line in ((1, "2 passed, 0 failed, 1 skipped"), (1, "2 passed, 1 failed"), (0, "2 passed, 0 failed")):
             self.runs(0, tool, "--keep", "lines")

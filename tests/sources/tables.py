@@ -201,7 +201,7 @@ def main() -> int:
             with open(path, "w", encoding="utf-8") as file:
                 file.write(made)
         elif made != text:
-            wrong.append(f"{path} differs from the comments of the sources: tests/sources/tables.py --write")
+            wrong.append(f"{path} differs from the comments of the sources: tests/run.py tables -- --write")
     return report("tables", wrong)
 
 
