@@ -18,6 +18,7 @@ passed, N failed`, and `, N skipped` follows if something was skipped."""
 from __future__ import annotations
 
 import argparse
+import contextlib
 import ctypes
 import fnmatch
 import os
@@ -30,7 +31,7 @@ import sys
 import tempfile
 import threading
 import time
-from collections.abc import Callable, Iterator
+from collections.abc import Callable
 from dataclasses import dataclass, field
 from pathlib import Path
 
@@ -151,25 +152,27 @@ CHECKS = (
 
 @dataclass
 class Result:
-    """The result of a check: `passed`, `failed` or `skipped`, and why, and the counts that are added."""
+    """The result of a check: the counts that are added, the skipped things, and why the check failed."""
 
-    state: str
-    why: str = ""
     passed: int = 0
     failed: int = 0
     skips: list[str] = field(default_factory=list)
+    why: str = ""
+
+    @property
+    def state(self) -> str:
+        """Says in a word how the check ended."""
+        return "failed" if self.failed else "passed" if self.passed else "skipped"
 
 
 def counted(name: str, status: int, output: str) -> Result:
     """Returns the result of a check that has ended with this status and this output."""
-    skips = SKIPPED.findall(output)
+    skips = [f"{name}: {it}" for it in SKIPPED.findall(output)]
     if status == NOTHING_TRIED:
-        return Result("skipped", skips=[f"{name}: {it}" for it in skips or ["all of it, and it gives no reason"]])
+        return Result(skips=skips or [f"{name}: all of it, and it gives no reason"])
     counts = COUNTED.findall(output) if name == "prove" else []
     passed, failed = map(int, counts[-1]) if counts else (int(status == 0), 0)
-    failed = max(failed, int(status != 0))
-    state = "failed" if failed else "passed"
-    return Result(state, f"it ended with status {status}" * bool(status), passed, failed, [f"{name}: {it}" for it in skips])
+    return Result(passed, max(failed, int(status != 0)), skips, f"it ended with status {status}" * bool(status))
 
 
 def files(root: Path) -> dict[str, tuple[int, ...]]:
@@ -235,10 +238,8 @@ def end_all() -> None:
     for sign, seconds in ((signal.SIGINT, 5), (signal.SIGTERM, 2), (signal.SIGKILL, 5)):
         left = descendants()
         for process in left:
-            try:
+            with contextlib.suppress(ProcessLookupError):
                 os.kill(process, sign)
-            except ProcessLookupError:
-                pass
         end = time.monotonic() + seconds
         while left and time.monotonic() < end:
             time.sleep(0.05)
@@ -268,10 +269,10 @@ class Run:
         something that it needs is not built."""
         for name in check.first():
             if name in self.results and self.results[name].state == "failed":
-                return Result("failed", f"not run, because {name} has failed", failed=1)
+                return Result(failed=1, why=f"not run, because {name} has failed")
         for path, why in map(MADE.__getitem__, check.needs):
             if not (ROOT / path).exists():
-                return Result("skipped", skips=[f"{check.name}: all of it, {why}"])
+                return Result(skips=[f"{check.name}: all of it, {why}"])
         return None
 
     def try_one(self, check: Check) -> None:
@@ -280,7 +281,7 @@ class Run:
         try:
             result = counted(check.name, self.status(check), self.output(check.name))
         except Exception as error:  # whatever it is, the check has failed, and the run goes on
-            result = Result("failed", str(error), failed=1)
+            result = Result(failed=1, why=str(error))
         self.ended.put((check, result, time.monotonic() - began))
 
     def status(self, check: Check) -> int:
@@ -295,23 +296,14 @@ class Run:
             path.write_text("".join(f"{check.name}: {it}\n" for it in lines), encoding="utf-8")
             return int(bool(lines))
         none, words = subprocess.DEVNULL, check.words(self.given.chosen[check.name])
-        with path.open("wb") as file:
-            process = subprocess.Popen(
-                words, cwd=ROOT, env=env, stdin=none, stdout=file, stderr=file, start_new_session=True
-            )
-        return self.wait(check, process)
-
-    def wait(self, check: Check, process: subprocess.Popen[bytes]) -> int:
-        """Waits for a check to end, and shows its output until then if its lines are wanted. Returns its status."""
-        if not self.is_live and check.name != "prove":
-            return process.wait()
-        with (self.room / f"{check.name}.said").open("rb") as file:
-            while True:
-                status = process.poll()
-                print(file.read().decode(errors="replace"), end="", flush=True)
-                if status is not None:
-                    return status
-                time.sleep(0.1)
+        with path.open("wb") as file, path.open(encoding="utf-8", errors="replace") as said:
+            process = subprocess.Popen(words, 0, None, none, file, file, cwd=ROOT, env=env, start_new_session=True)
+            while process.returncode is None:
+                with contextlib.suppress(subprocess.TimeoutExpired):
+                    process.wait(0.1)
+                if self.is_live or check.name == "prove":
+                    print(said.read(), end="", flush=True)
+        return process.returncode
 
     def start(self) -> None:
         """Starts the checks that can be started now, in the order of the table."""
@@ -389,12 +381,6 @@ def chosen(reader: argparse.ArgumentParser, checks: tuple[Check, ...]) -> argpar
     return given
 
 
-def listed(checks: list[Check]) -> Iterator[str]:
-    """Yields the lines of --list. An asterisk marks the checks of the quick run."""
-    for it in checks:
-        yield f"{it.name:8} {'*' if it.kind & QUICK else ' '} {it.shows}" + f" (after {', '.join(it.first())})" * bool(it.first())
-
-
 def arguments() -> argparse.ArgumentParser:
     """Returns a reader of the arguments before `--`."""
     form = argparse.RawDescriptionHelpFormatter
@@ -417,7 +403,9 @@ def main(checks: tuple[Check, ...] = CHECKS) -> int:
     """Runs the checks that the arguments choose. Returns the exit status."""
     given = chosen(arguments(), checks)
     if given.list:
-        print(*listed([it for it in checks if it.name in given.chosen]), sep="\n")
+        for it in (it for it in checks if it.name in given.chosen):
+            after = f" (after {', '.join(it.first())})" * bool(it.first())
+            print(f"{it.name:8} {'*' if it.kind & QUICK else ' '} {it.shows}{after}")
         return 0
     if "prove" in given.chosen and subprocess.run(["tools/prove.py", "--kit"], cwd=ROOT, check=False).returncode:
         return 1

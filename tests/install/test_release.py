@@ -211,7 +211,8 @@ class Roots(ImageCase):
 
     def inside(self, *words: str) -> str:
         """Runs a command in the root, as root."""
-        return self.runs(0, "chroot", self.root, *words, env={"LC_ALL": "C", "DEBIAN_FRONTEND": "noninteractive"})
+        env = {"LC_ALL": "C", "DEBIAN_FRONTEND": "noninteractive", "TMPDIR": "/tmp"}
+        return self.runs(0, "chroot", self.root, *words, env=env)
 
     def install(self, *names: str) -> None:
         """Installs packages of Debian."""
