@@ -1,6 +1,5 @@
-#!/usr/bin/env python3
 # SPDX-License-Identifier: BSD-2-Clause-Patent
-"""rows [PROGRAM]: runs each row of crates/fv_run_tests/rows over the built program, or over another program.
+"""Runs each row of crates/fv_run_tests/rows over the program. Each row is a test, as in `rows.list.12`.
 
 A row is run over bytes and over hexadecimal text, which --hex reads. It is run only over text if an input is written as
 text. The first input is a file, and is then also given on standard input if the command can read it there. The status
@@ -10,12 +9,10 @@ volume, which `check` reads. Some inputs are read only from standard input: volu
 [checked images], [unfit], [extents] and [values] are for tests/python/volumes.py, and the rows of [data] for
 tests/python/parts.py, which need the library.
 
-The number of rows has to be ROWS, so that no row gets lost unnoticed. Each row that the tests of the crate use has to
-be among them."""
+The number of rows has to be ROWS, so that no row gets lost unnoticed."""
 
 from __future__ import annotations
 
-import argparse
 import collections
 import concurrent.futures
 import itertools
@@ -23,19 +20,19 @@ import os
 import re
 import shlex
 import subprocess
-import sys
 import tempfile
+import unittest
 from collections.abc import Callable, Iterable, Iterator
 from dataclasses import dataclass, field
 from pathlib import Path
 
-from tests.checks import ROOT, read, report
-
-
 import rows
+from tests.checks import ROOT, read
+from tests.frame import PROGRAM, needs_program
 
-# The number of rows in all files.
+# The number of rows in all files, and the files, by their names and headings.
 ROWS = 1091
+FILES = {path.stem: rows.tables(path.stem) for path in sorted(rows.FOLDER.glob("*.rows"))}
 # The files whose rows describe runs of a command.
 RUNS = ["normalise", "extract", "scan", "hobs", "list", "sums", "check", "cells", "unfix", "compare", "placed", "text"]
 # The files of the crate's tests that have rows.
@@ -43,8 +40,6 @@ TESTS = ["volumes", "command/other_runs", "command/opened_runs"]
 # The commands that have another name in the rows than in the program.
 COMMANDS = {"normalise-all": ["normalise", "--all"], "check-all": ["check", "--all"], "list-sums": ["list", "--sums"]}
 NAME = "0a0a0a0a-0a0a-0a0a-0a0a-0a0a0a0a0a0a"
-
-
 # A function that returns the part of an output that is compared.
 Look = Callable[[bytes], object]
 
@@ -70,14 +65,9 @@ def shown(data: bytes, is_hex: bool) -> bytes:
     return b"".join(data[at : at + 32].hex().encode() + b"\n" for at in range(0, len(data), 32))
 
 
-def is_text(words: str) -> bool:
-    """Returns whether an input is written as text."""
-    return words.startswith("'")
-
-
 def input_of(words: str, is_hex: bool) -> bytes:
-    """Returns the bytes of an input."""
-    if is_text(words):
+    """Returns the bytes of an input. An input that begins with an apostrophe is written as text."""
+    if words.startswith("'"):
         return words[1:].encode().decode("unicode_escape").encode("latin-1")
     return shown(rows.spelled(words), is_hex)
 
@@ -119,7 +109,7 @@ def runs_of(row: str, look: Look = bytes) -> Iterator[Run]:
     first, _, second = words.partition(" & ")
     status, _, text = wanted.partition(" ")
     for is_hex in (False, True):
-        if not is_hex and (is_text(first) or is_text(second)):
+        if not is_hex and "'" in first[:1] + second[:1]:
             continue
         label = row + " (--hex)" * is_hex
         given, other = input_of(first, is_hex), input_of(second, is_hex)
@@ -340,23 +330,17 @@ def is_explained(status: int, said: bytes) -> bool:
     return said.startswith(b"This is fvtool ") or bool(lines) and all(it.startswith(b"fvtool: ") for it in lines)
 
 
-def fault_of(program: str, run: Run) -> str | None:
+def fault_of(run: Run) -> str | None:
     """Makes a run. Returns how its result differs from the right result, or nothing if it does not."""
     with tempfile.TemporaryDirectory() as room:
         for name, data in run.files.items():
             Path(room, name).write_bytes(data)
-        done = subprocess.run(
-            [program, *run.arguments], input=run.standard, capture_output=True, cwd=room, timeout=120, check=False
-        )
+        words = [str(PROGRAM), *run.arguments]
+        done = subprocess.run(words, input=run.standard, capture_output=True, cwd=room, timeout=120, check=False)
     if (done.returncode, run.look(done.stdout)) == (run.status, run.output) and is_explained(run.status, done.stderr):
         return None
     seen = f"status {done.returncode}, {done.stdout[:300]!r} {done.stderr[:300]!r}"
     return f"{run.label[:300]}\n  fvtool {shlex.join(run.arguments)}: {seen}"
-
-
-def faults_of(program: str, runs: Iterable[Run]) -> list[str | None]:
-    """Makes some runs, one after the other. Returns the result of `fault_of` for each."""
-    return [fault_of(program, run) for run in runs]
 
 
 def rows_of_tests() -> Iterator[tuple[str, str]]:
@@ -369,49 +353,76 @@ def rows_of_tests() -> Iterator[tuple[str, str]]:
                     yield path, re.sub(r"\\(.)", r"\1", row.strip())
 
 
-def groups_of(files: dict[str, dict[str, list[str]]]) -> Iterator[Iterable[Run]]:
-    """Returns all runs except those with an endless input, in groups that may be tried side by side."""
-    for name in RUNS:
-        yield from map(runs_of, files[name][""])
-    yield from itertools.starmap(image_runs, rows.images())
-    calls: list[tuple[Callable[[str], Iterator[Run]], list[str]]] = [
-        (offset_runs, files["library"]["offsets"]),
-        (rejecting_runs, files["each"][""]),
-        (opened_runs, files["opened"][""]),
-        (body_runs, files["bodies"][""]),
-        (rejected_runs, files["parts"][""]),
-        (wrong_runs, files["wrong"][""]),
-        (right_stream_runs, files["streams"]["right"]),
-        (wrong_stream_runs, files["streams"]["wrong"]),
-    ]
-    for call, table in calls:
-        yield from map(call, table)
-    yield from (full_runs(), many_file_runs(), long_text_runs())
-    yield from map(length_runs, files["lengths"].values(), (0, 4, 2))
-    yield from (read_runs(), stream_runs("1000 sections", *rows.long_stream()))
+# How the rows of each file and heading are run.
+CALLS: list[tuple[str, str, Callable[[str], Iterator[Run]]]] = [
+    *((name, "", runs_of) for name in RUNS),
+    ("library", "offsets", offset_runs),
+    ("each", "", rejecting_runs),
+    ("opened", "", opened_runs),
+    ("bodies", "", body_runs),
+    ("parts", "", rejected_runs),
+    ("wrong", "", wrong_runs),
+    ("streams", "right", right_stream_runs),
+    ("streams", "wrong", wrong_stream_runs),
+    ("endless", "", endless_runs),
+]
 
 
-def main() -> int:
-    """Makes all runs, and counts the rows. Returns the exit status."""
-    reader = argparse.ArgumentParser(description="Runs each row of crates/fv_run_tests/rows over a program.")
-    built = ROOT / "crates/fv_tool/out/fv_tool"
-    reader.add_argument("program", nargs="?", default=built, help="by default the program that is built")
-    program = os.path.abspath(reader.parse_args().program)
-    files = {path.stem: rows.tables(path.stem) for path in sorted(rows.FOLDER.glob("*.rows"))}
-    found = [row for file in files.values() for table in file.values() for row in table]
-    wrong = [] if len(found) == ROWS else [f"there are {len(found)} rows, and not {ROWS}"]
-    used = [*rows_of_tests()]
-    wrong += [f"src/{path}.rt has what is no row of the folder: {row}" for path, row in used if row not in found]
-    groups = [*groups_of(files)]
-    with concurrent.futures.ThreadPoolExecutor(os.cpu_count()) as pool:
-        tried = [*itertools.chain(*pool.map(lambda group: faults_of(program, group), groups))]
-    # Each of these runs takes 512 MB, so they are made one after the other.
-    tried += itertools.chain(*(faults_of(program, endless_runs(row)) for row in files["endless"][""]))
-    wrong += filter(None, tried)
-    counts = f"{len(found)} rows, {len(tried)} runs of the program, {len(wrong)} not as they should be"
-    status = report("rows", wrong[:20], f"{counts}; the tests use {len(used)}")
-    return status if used else 1
+@needs_program
+class RowCase(unittest.TestCase):
+    """The runs of a row, or of rows that belong together. Its name has the file of the row, the heading if there is
+    one, and the number of the row below it."""
+
+    def __init__(self, method: str = "test_runs", name: str = "none", runs: Iterable[Run] = ()) -> None:
+        super().__init__(method)
+        self.name, self.runs = name, runs
+
+    def id(self) -> str:
+        return f"{__name__}.{self.name}"
+
+    def test_runs(self) -> None:
+        """Makes the runs side by side. Each run with an endless input takes 512 MB, so these follow one another."""
+        with concurrent.futures.ThreadPoolExecutor(1 if self.name.startswith("endless.") else os.cpu_count()) as pool:
+            wrong = [*filter(None, pool.map(fault_of, self.runs))]
+        self.assertFalse(wrong, "\n".join([f"{len(wrong)} runs are wrong:", *wrong[:20]]))
 
 
-if __name__ == "__main__":
-    sys.exit(main())
+class Tables(unittest.TestCase):
+    """The rows themselves."""
+
+    found = [row for file in FILES.values() for table in file.values() for row in table]
+
+    def test_number(self) -> None:
+        self.assertEqual(len(self.found), ROWS)
+
+    def test_rows_of_the_crates_tests(self) -> None:
+        """The rows that the tests of the crate use are rows of the folder."""
+        used = 0
+        for path, row in rows_of_tests():
+            self.assertIn(row, self.found, f"src/{path}.rt")
+            used += 1
+        self.assertTrue(used)
+
+
+def row_cases() -> Iterator[tuple[str, Iterator[Run]]]:
+    """Yields the name and the runs of each row, and of the rows that belong together."""
+    for file, heading, call in CALLS:
+        for number, row in enumerate(FILES[file][heading], 1):
+            yield ".".join(filter(None, (file, heading, str(number)))), call(row)
+    for name, image in rows.images():
+        yield f"volumes.{name}", image_runs(name, image)
+    for (heading, table), fault in zip(FILES["lengths"].items(), (0, 4, 2)):
+        yield f"lengths.{heading}", length_runs(table, fault)
+    yield "read", read_runs()
+    yield "full volumes", full_runs()
+    yield "many files", many_file_runs()
+    yield "long texts", long_text_runs()
+    yield "long stream", stream_runs("1000 sections", *rows.long_stream())
+
+
+def load_tests(loader: unittest.TestLoader, _: unittest.TestSuite, __: object) -> unittest.TestSuite:
+    """Returns the tests of this module: those of Tables, and of all rows if the program is built."""
+    found = loader.loadTestsFromTestCase(Tables)
+    rows_of = (RowCase("test_runs", name, runs) for name, runs in row_cases())
+    found.addTests(rows_of if PROGRAM.exists() else [RowCase()])
+    return found
