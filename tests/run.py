@@ -4,7 +4,7 @@
 each check shows. Without names, all of them run, which is the gate: .ci/run.
 
 A NAME is a check (`rows`), a pattern (`t*`), or one case of a check, after a dot: a test in Python
-(`commands.same.Verdicts`), a row (`rows.block-map-of-256`), the wrong bodies of a crate or one of them
+(`commands.same.Same`), a row (`rows.list.12`), the wrong bodies of a crate or one of them
 (`mutants.fv_head`, `mutants.fv_head.EDIT`), a document with examples (`examples.README`). The check gets the text after
 the dot as its argument. It gets the arguments after `--` as they are: `tests/run.py tables -- --write`. A check that is
 run by name does not run the checks that it needs.
