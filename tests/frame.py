@@ -118,7 +118,7 @@ def chosen(package: str, names: list[str]) -> unittest.TestSuite:
         is_lost = type(test).__name__ == "_FailedTest"  # a module that cannot be read
         return is_lost or not names or any(fnmatch.fnmatch(f"{short}.", f"{name}.*") for name in names)
 
-    return unittest.TestSuite(filter(is_chosen, tests_in(suite)))
+    return unittest.TestSuite([it for it in tests_in(suite) if is_chosen(it)])
 
 
 def say_skipped(name: str, result: unittest.TestResult) -> None:
