@@ -3,7 +3,7 @@
 #
 #   make                  proves and builds the program and the library if sources have changed: out/ and libfv/out/
 #   make try              runs the program over a volume
-#   make check            does `make try`, and all checks that prove nothing (tests/quick). The gate is .ci/run
+#   make check            does `make try`, and the checks that prove nothing (tests/run.py). The gate is .ci/run
 #   make install          after `make`: installs the program, the tools that use it, manual pages, completion, documents
 #   make install-lib      after `make`: installs the library, with files for pkg-config, CMake and Python
 #   make uninstall        removes the installed program and the installed library
@@ -80,7 +80,7 @@ try: $(OUT)/fvtool
 	test "$$("$(OUT)/fvtool" check --hex crates/fv_tool/stdin)" = canonical
 
 check: try
-	MAKEFLAGS= tests/quick
+	MAKEFLAGS= tests/run.py --quick
 
 # Writes pages to a folder, with the folders of this run in place of those of a package.
 page = tools/page --places "$(DOCDIR)" "$(DATADIR)" "$(BINDIR)/"

@@ -1,9 +1,9 @@
 #!/usr/bin/env python3
 # SPDX-License-Identifier: BSD-2-Clause-Patent
 """Runs the examples of README.md, docs/PROGRAM.md, docs/FAULTS.md and the READMEs of recipes/, and compares their
-outputs and exit statuses with what the documents show. If names of documents are given, it runs only the examples of
-these documents. With --root, it runs them in the root of another system, as a user of the commands that are installed
-there (tests/install/roots).
+outputs and exit statuses with what the documents show. If documents are given, it runs only the examples of these
+documents: a file, or a name, as README, PROGRAM, or `map` for the README of recipes/map. With --root, it runs them in the root of another system, as a user of the commands that are installed
+there (tests/install/test_release.py).
 
 An example is an indented block with lines that begin with '$ '. All examples of a document run in one shell, in an
 empty folder that has ./fvtool, libfv/, crates/ and recipes/, and with the commands of python/bin in the PATH. A
@@ -27,7 +27,10 @@ from dataclasses import dataclass
 
 from tests.checks import NOTHING_TRIED, ROOT, read, report, skip
 
-DOCUMENTS = ["README.md", "docs/PROGRAM.md", "docs/FAULTS.md"]
+# The documents with examples, by their names.
+DOCUMENTS = {"README": "README.md", "PROGRAM": "docs/PROGRAM.md", "FAULTS": "docs/FAULTS.md"} | {
+    path.split("/")[1]: path for path in sorted(glob.glob("recipes/*/README.md", root_dir=ROOT))
+}
 OVMF = "/usr/share/OVMF"
 LIBRARY = "libfv/out/libfv.so.2"
 MARK = "@@@ example"
@@ -156,7 +159,8 @@ def main() -> int:
     place = Place(os.path.abspath(given.root) if given.root else "", given.bin)
     wrong: list[str] = []
     ran, skipped = 0, 0
-    for document in given.documents or DOCUMENTS + sorted(glob.glob("recipes/*/README.md", root_dir=ROOT)):
+    for name in given.documents or DOCUMENTS:
+        document = DOCUMENTS.get(name, name)
         text = read(ROOT / document)
         tried = [it for lines in blocks(text) for it in examples(lines) if not it.command.startswith("sudo ")]
         reason = lacking(text, tried, place)

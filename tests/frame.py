@@ -1,6 +1,7 @@
 # SPDX-License-Identifier: BSD-2-Clause-Patent
 """The frame of the tests by `unittest`: where the built files are, what a test needs, and how a test runs a command in a
-scratch folder. As a program, it runs the tests of a package and prints what failed and what was skipped, and why:
+scratch folder. As a program, it runs the tests of a package, or of one module (`tests.program.test_rows`), and prints what
+failed and what was skipped, and why:
 
     python3 -m tests.frame PACKAGE [NAME..]
 
@@ -61,8 +62,15 @@ class RoomCase(unittest.TestCase):
 
     def run_command(self, *words: str | Path, **more: Any) -> subprocess.CompletedProcess[str]:
         """Runs a command. Both streams are kept apart, and `env` is added to the environment."""
-        more["env"] = {**os.environ, **more.get("env", {})}
-        return subprocess.run(words, **{"capture_output": True, "text": True, "errors": "surrogateescape"} | more)
+        env = {**os.environ, **more.pop("env", {})}
+        how: dict[str, Any] = {"capture_output": True, "text": True, "errors": "surrogateescape", **more}
+        return subprocess.run(words, env=env, **how)
+
+    def runs(self, status: int, *words: str | Path, **more: Any) -> str:
+        """Runs a command, checks its status, and returns what it writes to standard output."""
+        said = self.run_command(*words, **more)
+        self.assertEqual(said.returncode, status, f"{words}: {said.stdout}{said.stderr}")
+        return str(said.stdout)
 
     def expect(self, status: int, text: str, *words: str | Path, **more: Any) -> None:
         """Runs a command, and checks its status and what it writes to both streams together."""
@@ -86,7 +94,7 @@ class Result(unittest.TextTestResult):
     def stopTest(self, test: unittest.TestCase) -> None:
         super().stopTest(test)
         if self.showAll:
-            self.stream.writeln(f"    {time.monotonic() - self.began:.1f} s")
+            self.stream.write(f"    {time.monotonic() - self.began:.1f} s\n")
 
 
 def tests_in(suite: unittest.TestSuite) -> Iterator[unittest.TestCase]:
@@ -99,9 +107,10 @@ def tests_in(suite: unittest.TestSuite) -> Iterator[unittest.TestCase]:
 
 
 def chosen(package: str, names: list[str]) -> unittest.TestSuite:
-    """Returns the tests of a package whose names begin with one of the names, or all of them."""
-    folder = ROOT / package.replace(".", "/")
-    found = list(tests_in(unittest.TestLoader().discover(str(folder), top_level_dir=str(ROOT))))
+    """Returns the tests of a package, or of one module, whose names begin with one of the names, or all of them."""
+    folder, loader = ROOT / package.replace(".", "/"), unittest.TestLoader()
+    suite = loader.discover(str(folder), top_level_dir=str(ROOT)) if folder.is_dir() else loader.loadTestsFromName(package)
+    found = list(tests_in(suite))
     short = {it: it.id().removeprefix(f"{package}.").removeprefix("test_") for it in found}
     wanted = [it for it in found if not names or any(fnmatch.fnmatch(short[it] + ".", f"{name}.*") for name in names)]
     lost = [it for it in found if type(it).__name__ == "_FailedTest" and it not in wanted]  # a module that is not read
@@ -125,6 +134,7 @@ def main() -> int:
     suite = chosen(package, names)
     if not suite.countTestCases():
         sys.exit(f"no test of {package} has the name {' '.join(names)}")
+    unittest.installHandler()  # after Ctrl-C, the classes still remove their folders
     result = unittest.TextTestRunner(sys.stdout, verbosity=2 if names else 1, resultclass=Result, buffer=True).run(suite)
     say_skipped(package, result)
     wrong = len(result.failures) + len(result.errors)

@@ -3,7 +3,7 @@
 # Shared code of the checks and tests: how a check names a thing that it could not try.
 #
 # A check prints one line `NAME: skipped: WHAT, WHY` on standard output for each such thing. It ends with status 0 if
-# everything else was right, and with status $NOTHING_TRIED if it could try nothing at all. tests/counting.bash counts
+# everything else was right, and with status $NOTHING_TRIED if it could try nothing at all. tests/run.py counts
 # these lines. A check that runs another script passes on the lines of that script.
 export NOTHING_TRIED=77
 

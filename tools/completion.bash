@@ -1,5 +1,6 @@
 # SPDX-License-Identifier: BSD-2-Clause-Patent
-# Completion of fvtool(1) for bash. It needs no other package, and runs the fvtool in PATH to get offsets and names.
+# Completion of fvtool(1) for bash. It needs no other package, and runs the fvtool in PATH to get its commands and their
+# options, offsets and names.
 
 # Writes the Nth file among the other arguments.
 _fvtool_file() { # N
@@ -34,12 +35,17 @@ _fvtool_names() {
     fi
 }
 
+# Writes the forms of the command line, or of one command, which the program's help shows.
+_fvtool_forms() { # [COMMAND]
+    command fvtool --help 2>&1 | awk -v "name=${1-}" '$1 == "fvtool" && $2 ~ /^[a-z]+$/ && (name == "" || $2 == name)'
+}
+
 _fvtool() {
     local current=${COMP_WORDS[COMP_CWORD]} previous=${COMP_WORDS[COMP_CWORD - 1]} choices hex=()
     if [[ " ${COMP_WORDS[*]} " == *' --hex '* ]]; then hex=(--hex); fi
     COMPREPLY=()
     if ((COMP_CWORD == 1)); then
-        choices='normalise list cells unfix extract check scan compare hobs'
+        choices=$(_fvtool_forms | cut -d ' ' -f 2)
     else
         case $previous in
             --at) choices=$(_fvtool_offsets 1) ;;
@@ -51,16 +57,7 @@ _fvtool() {
             *)
                 # The shell completes names of files if there are no choices.
                 if [[ $current != -* ]]; then return; fi
-                case ${COMP_WORDS[1]} in
-                    normalise | check) choices='--all --at --hex' ;;
-                    list) choices='--sums --at --hex' ;;
-                    cells | unfix) choices='--at --hex' ;;
-                    extract) choices='--name --section --instance --at --hex' ;;
-                    scan) choices='--hex' ;;
-                    compare) choices='--at --other-at --hex' ;;
-                    hobs) choices='--image --base --hex' ;;
-                    *) return ;;
-                esac
+                choices=$(_fvtool_forms "${COMP_WORDS[1]}" | grep -o -e '--[a-z-]*' | sort)
                 ;;
         esac
     fi

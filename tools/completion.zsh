@@ -1,6 +1,6 @@
 #compdef fvtool
 # SPDX-License-Identifier: BSD-2-Clause-Patent
-# Completion of fvtool(1) for zsh. It runs the fvtool in PATH to get offsets and names.
+# Completion of fvtool(1) for zsh. It runs the fvtool in PATH to get its commands, offsets and names.
 
 # Writes the Nth file among the arguments.
 _fvtool_file() { # N
@@ -37,18 +37,9 @@ _fvtool_names() {
     _wanted names expl 'name of a file' compadd -a names
 }
 
+# Adds the commands, with what the program's help says of them.
 _fvtool_commands() {
-    local -a commands=(
-        'normalise:write the canonical image'
-        'list:write the meaning, a line for each part'
-        'cells:write where each part lies'
-        'unfix:write a copy in which no file is fixed'
-        'extract:write the data of a file or the body of a section'
-        'check:report whether a volume is its own canonical image'
-        'scan:find the volumes of a flash image'
-        'compare:write the first difference of two volumes'
-        'hobs:write the blocks of a hand-off list'
-    )
+    local -a commands=(${(f)"$(command fvtool --help 2>&1 | sed -nE 's/^([a-z]+)  +/\1:/p')"})
     _describe -t commands command commands
 }
 

@@ -23,18 +23,18 @@ from __future__ import annotations
 
 import concurrent.futures
 import hashlib
-import importlib
+import io
 import os
 import pathlib
 import re
-import shutil
 import signal
 import subprocess
 import sys
 import threading
 import time
-import types
 import typing
+
+import kit
 
 ROOT = pathlib.Path(__file__).resolve().parent.parent
 # The crates that this script builds, with the name of the file that is made from the crate, and the command of the kit
@@ -42,12 +42,10 @@ ROOT = pathlib.Path(__file__).resolve().parent.parent
 # because a process that loads it on an older processor would die by SIGILL at the first call. (The program checks the
 # processor itself when it starts.)
 MADE = {"fv_tool": ("fv_tool", ["run"]), "fv_c": ("libfv_c.a", ["lib", "--cpu=x86-64"])}
-# What to do without the kit.
-WITHOUT_KIT = "Without the kit, install the packages or the wheel of a release (docs/INSTALL.md)."
 # The command that a user runs to make the file of each crate.
 BUILDS = {"fv_tool": "./fvtool < crates/fv_tool/stdin", "fv_c": "libfv/build"}
-# About how many seconds the proof of a crate takes with one processor. The order of the builds and the reported share of
-# the work depend on this. A crate that is not listed takes USUAL.
+# About how many seconds the proof of a crate takes with one processor. The order of the builds and the reported share
+# of the work depend on this. A crate that is not listed takes USUAL.
 SECONDS = {
     "fv_base": 60, "fv_head": 100, "fv_file": 80, "fv_section": 45, "fv_depex": 60, "fv_hob": 75, "fv_text": 50, "fv_names": 45,
     "fv_placement": 35, "fv_sinks": 20, "fv_flash": 15, "fv_tree": 215, "fv_rows": 35, "fv_compare": 45, "fv_lines": 95,
@@ -105,6 +103,12 @@ def latest(paths: list[pathlib.Path]) -> float:
     return max(path.stat().st_mtime for path in paths)
 
 
+def free_memory() -> int:
+    """Returns how much memory is free, in kB."""
+    with open("/proc/meminfo", encoding="utf-8") as file:
+        return next(int(line.split()[1]) for line in file if line.startswith("MemAvailable:"))
+
+
 def minutes(seconds: float) -> str:
     """Returns the text for a number of seconds."""
     whole = max(round(seconds / 60), 1)
@@ -123,57 +127,24 @@ def fail(what: str, said: str) -> typing.NoReturn:
     os._exit(1)
 
 
-def needs_kit() -> None:
-    """Ends this script with a message if the kit is not there."""
-    if not shutil.which("rt"):
-        say(f"rt, the command of the Rattle kit, is not in PATH. {WITHOUT_KIT}")
-        sys.exit(1)
+class Said(io.StringIO):
+    """The text that the kit writes about a crate, and how many functions are checked so far, and how many there are, if
+    the kit has reported both numbers."""
 
+    checked = functions = 0
 
-def module_of_kit() -> types.ModuleType | None:
-    """Returns the kit's module for Python, if it has the functions that this script uses."""
-    needs_kit()
-    page = subprocess.run(["rt", "doc"], stdout=subprocess.PIPE, text=True, check=True).stdout.strip()
-    sys.path.insert(0, os.path.join(os.path.dirname(page), "bin"))
-    sys.dont_write_bytecode = True
-    try:
-        rtlib = importlib.import_module("rtlib")
-    except ImportError:
-        return None
-    used: list[tuple[typing.Any, str]] = [(rtlib, "guarded"), (rtlib, "lock"), (rtlib, "Crate")]
-    used += [(getattr(rtlib, "Crate", None), it) for it in ("below", "is_built", "build_rlib")]
-    return rtlib if all(hasattr(*it) for it in used) else None
-
-
-class Said:
-    """The text that the kit writes about a crate. The kit's module for Python writes to this object as to a file."""
-
-    def __init__(self) -> None:
-        self.parts: list[str] = []
-        # How many functions are checked, and how many there are, if the kit has reported both numbers.
-        self.checked, self.functions = 0, 0
-
-    def write(self, text: str) -> None:
-        """Adds a text, and reads in it how many functions are checked so far."""
-        self.parts.append(text)
+    def write(self, text: str) -> int:
+        """Adds a text."""
         for found in SO_FAR.finditer(text):
             self.checked, self.functions = int(found[1]), int(found[2])
-
-    def flush(self) -> None:
-        """Does nothing, because no text is buffered."""
-
-    def text(self) -> str:
-        """Returns all of the text."""
-        return "".join(self.parts)
+        return super().write(text)
 
 
 class Plan:
     """The crates that are still to be built, the crates that are being built, and how much of the work is done."""
 
     def __init__(self, crates: list[typing.Any]) -> None:
-        with open("/proc/meminfo", encoding="utf-8") as file:
-            free = next(int(line.split()[1]) for line in file if line.startswith("MemAvailable:"))
-        self.processors, self.rooms = len(os.sched_getaffinity(0)), free // ROOM
+        self.processors, self.rooms = len(os.sched_getaffinity(0)), free_memory() // ROOM
         self.left, self.count, self.begin = {*crates}, len(crates), time.monotonic()
         self.work = sum(SECONDS.get(it.name, USUAL) for it in crates)
         # The last report of the progress: the crates, the crates with the numbers of their functions, and the time of
@@ -210,8 +181,8 @@ class Plan:
         return max(found, 0 if self.running else 1) if len(self.running) < self.processors else 0
 
     def start(self) -> typing.Iterator[tuple[typing.Any, int, bool]]:
-        """Begins the crates that can be begun now, the longest chain first. Yields each crate, its number of processes, and
-        whether it has time to spare."""
+        """Begins the crates that can be begun now, the longest chain first. Yields each crate, its number of processes,
+        and whether it has time to spare."""
         ready = [it for it in self.left if it not in self.running and not self.left & {*it.below()}]
         longest = max(map(self.chain, [*ready, *self.running]), default=0)
         for crate in sorted(ready, key=self.chain, reverse=True):
@@ -248,8 +219,8 @@ class Plan:
         return int(100 * (1 - rest / self.work))
 
     def tell(self) -> None:
-        """Reports the progress of the build, if other crates are being built, if more functions are checked, or if it was
-        not reported for some time."""
+        """Reports the progress of the build, if other crates are being built, if more functions are checked, or if it
+        was not reported for some time."""
         now, waited = self.now(), time.monotonic() - self.told_at
         if now[0] == self.told[0] and waited < (LATE if now == self.told else SOON):
             return
@@ -305,14 +276,18 @@ def build_libraries(plan: Plan) -> None:
         for ended in first_of(runs, plan):
             crate = runs.pop(ended)
             if ended.result():
-                fail(f"{crate.name} is not proved", plan.said[crate].text())
+                fail(f"{crate.name} is not proved", plan.said[crate].getvalue())
             plan.end(crate)
 
 
 def build(name: str, command: list[str]) -> None:
     """Builds the libraries below a crate, and then, by a command of the kit, the file that is made from it."""
-    folder, rtlib = ROOT / "crates" / name, module_of_kit()
+    folder = ROOT / "crates" / name
     jobs, said, plan = len(os.sched_getaffinity(0)), Said(), None
+    try:
+        rtlib = kit.rtlib()
+    except ImportError:
+        rtlib = None
     if rtlib:
         signal.signal(signal.SIGINT, signal.SIG_DFL)
         rtlib.guarded()
@@ -329,20 +304,19 @@ def build(name: str, command: list[str]) -> None:
         # The command does the same as `rt run`, except that it keeps no results.
         code = "import sys, rtlib; rtlib.KEPT = []; sys.exit(rtlib.main(*sys.argv[1:]))"
         words = [sys.executable, "-c", code, *command, "--jobs", str(min(jobs, 2))]
-        os.environ["PYTHONPATH"] = os.path.dirname(rtlib.__file__ or "")
-        os.environ["PYTHONDONTWRITEBYTECODE"] = "1"
+        os.environ |= {"PYTHONPATH": str(kit.folder() / "bin"), "PYTHONDONTWRITEBYTECODE": "1"}
     last = begin(run, words, folder, said)
     if plan:
         first_of([last], plan)
     if last.result():
-        fail(f"{name} is not proved and made", said.text())
+        fail(f"{name} is not proved and made", said.getvalue())
 
 
 def main() -> int:
     """Builds the crate that the arguments name, unless it is built already. With --is-made, only reports whether it is
     built."""
     if sys.argv[1:] == ["--kit"]:
-        needs_kit()
+        kit.folder()
         return 0
     only_asks = sys.argv[1:2] == ["--is-made"]
     names = sys.argv[2:] if only_asks else sys.argv[1:]
@@ -358,7 +332,7 @@ def main() -> int:
     is_made = made.exists() and (note.read_text() == found if note.exists() else latest(paths) <= made.stat().st_mtime)
     if only_asks:
         if not is_made:
-            say(f"{made.relative_to(ROOT)} is not built from these sources yet: {BUILDS[name]} builds it. {WITHOUT_KIT}")
+            say(f"{made.relative_to(ROOT)} is not built from these sources yet: {BUILDS[name]} builds it. {kit.WITHOUT_KIT}")
         return 0 if is_made else 1
     try:
         if not is_made:

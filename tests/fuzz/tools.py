@@ -1,4 +1,3 @@
-#!/usr/bin/env python3
 # SPDX-License-Identifier: BSD-2-Clause-Patent
 """Tries the readers of the Python package with the inputs of fuzz.py: `fv.images`, which opens compressed sections, and
 what fv-unpack, fv-same, fv-text, fv-map and fv-sbom show of an image. These readers are not proved, so an input may
@@ -20,7 +19,7 @@ The input of a finding is kept in tests/fuzz/out/."""
 from __future__ import annotations
 
 import argparse
-import lzma
+import itertools
 import os
 import random
 import re
@@ -29,13 +28,6 @@ import time
 import traceback
 import uuid
 from collections.abc import Callable, Iterable, Iterator
-from pathlib import Path
-
-ROOT = Path(__file__).resolve().parents[2]
-os.environ.setdefault("LIBFV", str(ROOT / "libfv/out/libfv.so.2"))
-
-from tests.fuzz import fuzz
-from tests import making as made
 
 import fv
 from fv import images, same, sbom, text, unpack
@@ -43,33 +35,25 @@ from fv._sheet import drawing_of
 from fv.limits import Full, Limits
 from fv.map import draw
 from fv.names import CODE, Names
+from tests import making
+from tests.frame import LIBRARY
+from tests.fuzz.cases import broken, make_case
+from tests.fuzz.fuzz import KEPT
+from tests.fuzz.program import require
 
 SECONDS = 20
 LIMITS = Limits(total=1 << 26, section=1 << 24, slow=1 << 16)
 NAMES = Names()
-CRC32 = uuid.UUID("fc1bcdb0-7d31-49aa-936a-a4600d9dd083")
-
-
-def stored(data: bytes) -> bytes:
-    """Returns a compression section that does not compress."""
-    return made.section(0x01, len(data).to_bytes(4, "little") + b"\0" + data)
-
-
-def by_tiano(data: bytes) -> bytes:
-    """Returns a compression section of type 1."""
-    return made.section(0x01, len(data).to_bytes(4, "little") + b"\1" + made.packed_by_tiano(data[:4096], 4))
-
-
 WAYS: list[Callable[[bytes], bytes]] = [
-    made.compressed,
-    made.compressed_code,
-    stored,
-    by_tiano,
-    lambda data: made.guided(CRC32, b"\0" * 4 + data),
-    lambda data: made.guided(uuid.UUID(int=7), data),
-    lambda data: made.section(0x17, data),
-    lambda data: made.section(0x02, data),
-    lambda data: made.stream(made.section(0x15, "Name".encode("utf-16-le") + b"\0\0"), made.section(0x19, data)),
+    making.compressed,
+    making.compressed_code,
+    making.compression,
+    lambda data: making.compression(making.packed_by_tiano(data[:4096], 4), len(data), 1),
+    lambda data: making.guided(making.CRC32, bytes(4) + data),
+    lambda data: making.guided(uuid.UUID(int=7), data),
+    lambda data: making.section(making.VOLUME, data),
+    lambda data: making.section(making.GUIDED, data),
+    lambda data: making.stream(making.ui("Name"), making.section(making.RAW, data)),
 ]
 
 
@@ -79,18 +63,18 @@ def packed(pick: random.Random, data: bytes) -> bytes:
         return data
     section = pick.choice(WAYS)(data)
     if pick.random() < 0.3:
-        section = fuzz.broken(pick, section)
-    sections = section if pick.random() < 0.5 else made.stream(made.section(0x17, data), section)
-    name, kind = made.guid(pick.randrange(9)), pick.choice((made.FREEFORM, made.DXE_DRIVER, 0x0B, 0x03, 0x05))
-    attributes = pick.choice((0, 0, 0, made.FIXED))
+        section = broken(pick, section)
+    sections = section if pick.random() < 0.5 else making.stream(making.section(making.VOLUME, data), section)
+    name, kind = making.guid(pick.randrange(9)), pick.choice((making.FREEFORM, making.DXE_DRIVER, 0x0B, 0x03, 0x05))
+    attributes = pick.choice((0, 0, 0, making.FIXED))
     length = max(0x8000, (len(sections) + 0x1000 + 7) & ~7)
-    return made.volume([made.file(name, sections, kind, attributes)], length)
+    return making.volume([making.file(name, sections, kind, attributes)], length)
 
 
 def inputs(seed: int, index: int) -> tuple[bytes, bytes | None]:
     """Returns the input with this number, and another image of the same meaning, if there is one."""
     pick = random.Random(f"{seed}/{index} tools")
-    case = fuzz.make_case(seed, index)
+    case = make_case(seed, index)
     data, twin = case.data, case.twin
     for _ in range(pick.choice((0, 0, 1, 1, 2, 3))):
         data, twin = packed(pick, data), None
@@ -98,14 +82,8 @@ def inputs(seed: int, index: int) -> tuple[bytes, bytes | None]:
     if before:
         data, twin = before + data, None
     if pick.random() < 0.1:
-        data, twin = fuzz.broken(pick, data), None
+        data, twin = broken(pick, data), None
     return data, twin
-
-
-def require(holds: object, *what: object) -> None:
-    """Raises an error with these texts if a promise is not kept."""
-    if not holds:
-        raise AssertionError("; ".join(str(it)[:500] for it in what))
 
 
 def is_shown(line: str) -> bool:
@@ -225,29 +203,24 @@ def check(data: bytes, twin: bytes | None, pick: random.Random) -> None:
         return
     check_content(image)
     check_shown(data, image)
-    check_same(data, twin, fuzz.broken(pick, data))
+    check_same(data, twin, broken(pick, data))
     took = time.process_time() - began
     require(took < SECONDS, f"{took:.1f} seconds")
 
 
-def run(seed: int, numbers: Iterator[int], end: float) -> tuple[int, int]:
-    """Tries inputs until a time, and returns how many there were and how many findings."""
-    count = findings = 0
-    for index in numbers:
-        if time.monotonic() > end:
-            break
-        count += 1
-        data, twin = inputs(seed, index)
-        try:
-            check(data, twin, random.Random(f"{seed}/{index} other"))
-        except Exception:
-            findings += 1
-            kept = ROOT / "tests/fuzz/out" / f"tools-{seed}-{index}"
-            kept.parent.mkdir(exist_ok=True)
-            kept.with_suffix(".bin").write_bytes(data)
-            kept.with_suffix(".txt").write_text(traceback.format_exc(), encoding="utf-8")
-            print(f"finding: {kept}.bin: {traceback.format_exc().splitlines()[-1][:300]}", flush=True)
-    return count, findings
+def try_one(seed: int, index: int) -> bool:
+    """Makes all checks of the input with this number. Returns whether there is a finding, which is kept."""
+    data, twin = inputs(seed, index)
+    try:
+        check(data, twin, random.Random(f"{seed}/{index} other"))
+        return False
+    except Exception:
+        kept = KEPT / f"tools-{seed}-{index}"
+        KEPT.mkdir(exist_ok=True)
+        kept.with_suffix(".bin").write_bytes(data)
+        kept.with_suffix(".txt").write_text(traceback.format_exc(), encoding="utf-8")
+        print(f"finding: {kept}.bin: {traceback.format_exc().splitlines()[-1][:300]}", flush=True)
+        return True
 
 
 def main() -> int:
@@ -258,10 +231,12 @@ def main() -> int:
     reader.add_argument("--count", type=int, default=1000, help="how many inputs")
     reader.add_argument("--seconds", type=float, default=3600, help="no new input after this many seconds")
     given = reader.parse_args()
-    numbers = iter(range(given.first, given.first + given.count))
-    count, findings = run(given.seed, numbers, time.monotonic() + given.seconds)
-    print(f"tools: {count} inputs, seed {given.seed}, {findings} findings")
-    return 1 if findings else 0
+    os.environ["LIBFV"] = str(LIBRARY)
+    end = time.monotonic() + given.seconds
+    numbers = itertools.takewhile(lambda _: time.monotonic() <= end, range(given.first, given.first + given.count))
+    found = [try_one(given.seed, index) for index in numbers]
+    print(f"tools: {len(found)} inputs, seed {given.seed}, {sum(found)} findings")
+    return 1 if any(found) else 0
 
 
 if __name__ == "__main__":

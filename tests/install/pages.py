@@ -1,7 +1,5 @@
-#!/usr/bin/env python3
 # SPDX-License-Identifier: BSD-2-Clause-Patent
-"""Checks that installed pages have no dead end. tests/install/install calls it with the folders that `make install` and `make
-install-lib` have filled, and with the folder that stands in place of the root.
+"""Finds the dead ends of installed pages.
 
 - A link in a page leads to a page in its folder, and to a heading that this page has.
 - A page that names a file of this repository, which is not installed, says where such files are.
@@ -10,14 +8,11 @@ install-lib` have filled, and with the folder that stands in place of the root.
 
 from __future__ import annotations
 
-import argparse
-import os
 import re
-import sys
-from collections.abc import Iterator
+from collections.abc import Iterable, Iterator
 from pathlib import Path
 
-from tests.checks import ROOT, read, report
+from tests.checks import ROOT, read
 
 LINK = re.compile(r"\[[^]]+\]\(([^)#]*)(?:#([^)]*))?\)")
 SAID = "are those of the source archive"
@@ -56,17 +51,14 @@ def dead_ends(page: Path, root: Path) -> Iterator[str]:
         yield f"{page}: {named[0]} is a file of the sources, and the page does not say so"
 
 
-def main() -> int:
-    """Checks the pages. Returns the exit status."""
-    parser = argparse.ArgumentParser(description="Checks that installed pages have no dead end.")
-    parser.add_argument("--root", type=Path, default=Path(""), help="the folder in place of the root")
-    parser.add_argument("folders", nargs="+", type=Path, help="folders of documents and of manual pages")
-    given = parser.parse_args()
-    pages = [it for folder in given.folders for it in sorted(folder.iterdir()) if it.suffix in (".md", ".1")]
-    root = given.root if os.fspath(given.root) != "." else Path("")
-    wrong = [line for page in pages for line in dead_ends(page, root)]
-    return report("pages", wrong, f"{len(pages)} installed pages, {len(wrong)} dead ends")
+def dead_ends_of(folders: Iterable[Path], root: Path) -> list[str]:
+    """Returns the errors in the pages of some folders, with this folder in place of the root."""
+    pages = [it for folder in folders for it in sorted(folder.iterdir()) if it.suffix in (".md", ".1")]
+    return [line for page in pages for line in dead_ends(page, root)]
 
 
-if __name__ == "__main__":
-    sys.exit(main())
+def lacking(page: Path, root: Path, below: Path) -> list[str]:
+    """Returns the files, folders and commands that a page names in backticks and that are not installed."""
+    named = re.findall(r"`(/usr/[a-z/.-]+|fv[a-z-]+|[A-Za-z]+\.md|copyright)[ `]", read(page))
+    places = (f"{root}%s", f"{below}/bin/%s", f"{below}/share/doc/fvtool/%s")
+    return sorted(it for it in {*named} if not any(Path(place % it).exists() for place in places))

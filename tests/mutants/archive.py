@@ -1,14 +1,13 @@
-#!/usr/bin/env python3
 # SPDX-License-Identifier: BSD-2-Clause-Patent
 """Compiles the archive of fv_c over the libraries that `rt ci` has just proved in this checkout. These libraries are in
 out/ without the note by which `rt lib` recognises a library, so `rt lib` would prove the crates below fv_c again. This
-script proves fv_c itself while it compiles it, with the flags of tools/prove.py, and keeps its proofs in out/. It uses
+module proves fv_c itself while it compiles it, with the flags of tools/prove.py, and keeps its proofs in out/. It uses
 one process, because several processes take more processor time."""
 
 import os
 import sys
 
-from kit import rtlib
+import kit
 from prove import MADE, ROOT
 
 
@@ -16,7 +15,7 @@ def main() -> int:
     """Compiles the archive. Returns the exit status."""
     folder = ROOT / "crates/fv_c"
     os.chdir(folder)
-    crate = rtlib().Crate(str(folder), str(ROOT), {})
+    crate = kit.rtlib().Crate(str(folder), str(ROOT), {})
     missing = [it.name for it in crate.below() if not os.path.isdir(it.rlib)]
     if missing:
         sys.exit(f"archive: rt ci left no library of {' '.join(missing)}")

@@ -1,8 +1,8 @@
 /* SPDX-License-Identifier: BSD-2-Clause-Patent */
 /* This object is loaded into a program. It refuses the program's allocation with the number REFUSE_AT, counted from 1,
-   and reports this by a byte on descriptor 9. If descriptor 8 is open when the program ends, four numbers are written
-   there: the most bytes that the program held at one time, the number of allocations that it asked for, and the sizes
-   of the two allocations after the refused allocation. */
+   and no allocation if that is 0. When the program ends, five numbers are written to the descriptor REPORT: the most
+   bytes that the program held at one time, the number of allocations that it asked for, whether one was refused, and
+   the sizes of the two allocations after the refused allocation. */
 #include <malloc.h>
 #include <stddef.h>
 #include <stdlib.h>
@@ -18,18 +18,20 @@ static size_t held;
 static size_t most;
 static size_t after[2];
 
+static long number_of(const char *name)
+{
+    const char *text = getenv(name);
+    return text ? atol(text) : 0;
+}
+
 static int is_refused(size_t size)
 {
-    if (refused < 0) {
-        const char *text = getenv("REFUSE_AT");
-        refused = text ? atol(text) : 0;
-    }
-    if (++calls != refused) {
-        if (refused > 0 && calls > refused && calls - refused <= 2)
-            after[calls - refused - 1] = size;
-        return 0;
-    }
-    return write(9, "x", 1) == 1;
+    if (refused < 0)
+        refused = number_of("REFUSE_AT");
+    calls++;
+    if (refused > 0 && calls > refused && calls - refused <= 2)
+        after[calls - refused - 1] = size;
+    return calls == refused;
 }
 
 /* Counts a new block, or a block that replaces an old block of this many bytes. Both count as held for a moment,
@@ -61,24 +63,25 @@ void free(void *old)
     __libc_free(old);
 }
 
-/* Writes a number to descriptor 8. This function allocates nothing, but printf might. */
-static void tell(size_t number, char end)
+/* Reports a number. This function allocates nothing, but printf might. */
+static void tell(size_t number)
 {
     char text[24];
     size_t at = sizeof text;
 
-    text[--at] = end;
+    text[--at] = '\n';
     do
         text[--at] = (char)('0' + number % 10);
     while ((number /= 10) != 0);
-    if (write(8, text + at, sizeof text - at) < 0)
-        return;
+    if (write((int)number_of("REPORT"), text + at, sizeof text - at) < 0)
+        _exit(99);
 }
 
 __attribute__((destructor)) static void tell_at_end(void)
 {
-    tell(most, ' ');
-    tell((size_t)calls, ' ');
-    tell(after[0], ' ');
-    tell(after[1], '\n');
+    tell(most);
+    tell((size_t)calls);
+    tell(refused > 0 && calls >= refused);
+    tell(after[0]);
+    tell(after[1]);
 }

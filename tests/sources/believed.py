@@ -12,6 +12,7 @@ code that the files of both lists cite."""
 import os
 import re
 import sys
+from collections.abc import Set
 
 from tests.checks import ROOT, read, report
 from tests.sources.definitions import Imports, Key, Place, Words
@@ -76,15 +77,13 @@ def main() -> int:
     cited = {key for place in files | others for key in types_of_code(words.imports[place])}
     if len(laws) < 2 or not refusals:
         wrong.append("the module headline or the file InputRejections does not have the laws that this script looks for")
-    if listed(headline) != files:
-        wrong.append(f"PROVED's list differs from the files that the headline rests on: {sorted(listed(headline) ^ files)}")
-    if strays:
-        wrong.append(f"the headline's files contain definitions that the headline does not rest on: {sorted(strays)}")
-    if named_types(types) != cited:
-        differing = sorted(named_types(types) ^ cited)
-        wrong.append(f"PROVED's list of types differs from the types that these files cite: {differing}")
-    if listed(besides) != others:
-        wrong.append(f"PROVED's list of rejections differs: {sorted(listed(besides) ^ others)}")
+    differing: dict[str, Set[object]] = {
+        "PROVED's list differs from the files that the headline rests on": listed(headline) ^ files,
+        "the headline's files contain definitions that the headline does not rest on": strays,
+        "PROVED's list of types differs from the types that these files cite": named_types(types) ^ cited,
+        "PROVED's list of rejections differs": listed(besides) ^ others,
+    }
+    wrong += [f"{what}: {sorted(map(str, those))}" for what, those in differing.items() if those]
     if said != computed:
         wrong.append(f"PROVED says {said} definitions, lines and files; it is {computed}")
     summary = f"the headline rests on {len(first)} definitions, {lines} lines, in {len(files)} files"

@@ -18,7 +18,7 @@ import ast
 import os
 import re
 import sys
-from collections.abc import Iterator
+from collections.abc import Callable, Iterator
 from dataclasses import dataclass, field
 
 from tests.checks import ROOT, found_by, read, report, scripts
@@ -67,6 +67,8 @@ LINE, CELL = 120, 200
 COMMENT = re.compile(r"\s*(?:--|//[/!]?)(?: |$)(.*)")
 # The arguments of argparse that are shown to a user.
 HELP = {"help", "description", "epilog", "usage"}
+# The lines of a file that are read, each with its number.
+Lines = Iterator[tuple[int, str | None]]
 QUOTED = re.compile(r"`[^`]*`|\"[^\"]*\"|\*[a-z_]+\*")
 
 
@@ -110,7 +112,7 @@ def paragraphs(lines: list[tuple[int, str | None]]) -> Iterator[Paragraph]:
         yield found
 
 
-def of_document(path: str) -> Iterator[tuple[int, str | None]]:
+def of_document(path: str) -> Lines:
     """Returns the lines of a document, with None in place of code and examples."""
     is_code = False
     for number, line in enumerate(read_lines(path), 1):
@@ -120,7 +122,7 @@ def of_document(path: str) -> Iterator[tuple[int, str | None]]:
         yield number, None if is_code or is_fence or is_example else line
 
 
-def of_comments(path: str) -> Iterator[tuple[int, str | None]]:
+def of_comments(path: str) -> Lines:
     """Returns the comments of a file of code, definitions or proofs, with None in place of all other lines."""
     for number, line in enumerate(read_lines(path), 1):
         match = COMMENT.match(line)
@@ -141,7 +143,7 @@ def texts_of(tree: ast.AST) -> Iterator[tuple[int, str]]:
             yield text.lineno, text.value
 
 
-def of_script(path: str) -> Iterator[tuple[int, str | None]]:
+def of_script(path: str) -> Lines:
     """Returns the lines of a script's comments and help, with an empty line after each text."""
     for first, text in texts_of(ast.parse("\n".join(read_lines(path)))):
         lines = text.split("\n")
@@ -192,16 +194,15 @@ def main() -> int:
     # The scripts that a user runs or imports.
     helped = scripts("recipes/**/*", "python/**/*", "examples/*")
     wrong: list[str] = []
-    for path in documents:
-        lines = list(of_document(path))
-        tables = [WORDS] if path == "CONTRIBUTING.md" else [WORDS, WORDS_OF_DOCUMENTS]
-        wrong += [*stumbles(path, lines, tables), *wide(path, lines)]
-    for path in sources:
-        lines = list(of_comments(path))
-        wrong += [*stumbles(path, lines, [WORDS]), *wide(path, lines)]
-    for path in helped:
-        lines = list(of_script(path))
-        wrong += [*stumbles(path, lines, []), *wide(path, lines)]
+    ways: tuple[tuple[list[str], Callable[[str], Lines], list[dict[str, str]]], ...] = (
+        (documents, of_document, [WORDS, WORDS_OF_DOCUMENTS]),
+        (sources, of_comments, [WORDS]),
+        (helped, of_script, []),
+    )
+    for paths, lines_of, tables in ways:
+        for path in paths:
+            lines = list(lines_of(path))
+            wrong += [*stumbles(path, lines, tables[:1] if path == "CONTRIBUTING.md" else tables), *wide(path, lines)]
     counts = f"{len(documents)} documents, comments of {len(sources)} files, help of {len(helped)} scripts"
     return report("plain", wrong, f"{counts}, {len(wrong)} places to mend")
 

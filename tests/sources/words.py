@@ -110,7 +110,7 @@ def named(cell: str) -> list[Item]:
 
 def edits_named(name: str, crate: str = "*") -> list[str]:
     """Returns the edits with a name, of a crate or of all crates, among the edits that rt ci tries and the edits that
-    tests/mutants/__main__.py tries."""
+    tests/mutants tries."""
     return [path for folder in ("must-fail", "mutants") for path in glob.glob(f"crates/{crate}/{folder}/{name}.edit")]
 
 

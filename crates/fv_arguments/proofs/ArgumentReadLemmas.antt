@@ -13,7 +13,7 @@ use Rattle.clap.specs.Walk.{Text, first_of, one_of, rows_after}
 use Rattle.clap.specs.Words.{App, HasMatchesOf, fault_of, is_simple_and_free}
 use Rattle.clap.specs.declared.parser.matches.ArgMatches.{ArgMatches}
 use Rattle.fv_arguments.specs.Words.{faults_in, flag_in, text_in, volume_app}
-use Rattle.fv_arguments.specs.inner.CommandWords.{IsRead, app_named}
+use Rattle.fv_arguments.specs.inner.CommandWords.{IsParsed, app_named}
 
 -- the test for equal texts is false of two texts that differ
 differ : (a b : Text) → a ≢ b → bytes_eq a b ≡ false
@@ -43,7 +43,7 @@ faults_read name words = grind (arith, common_steps, program_first)
 
 -- so if the reader finds no fault, the arguments after the first have none, and the matches are their rows
 pub read : {m : ArgMatches} (words : List Text) (name : Text) (given : App) → given ≡ app_named name → HasMatchesOf given words m
-    → (is_simple_and_free given ≡ true → fault_of given words ≡ []) → IsRead (app_named name) (drop 1 words) m
+    → (is_simple_and_free given ≡ true → fault_of given words ≡ []) → IsParsed (app_named name) (drop 1 words) m
 read {m} words name given e matches kinds =
     let app = app_named name in
     record {
@@ -53,7 +53,7 @@ read {m} words name given e matches kinds =
     }
 
 -- a text that is found in the matches is the text in the arguments
-pub text_answer : {app : App} {rest : List Text} {m : ArgMatches} → IsRead app rest m → (id : Text)
+pub text_answer : {app : App} {rest : List Text} {m : ArgMatches} → IsParsed app rest m → (id : Text)
     → first_value (found_of m) id ≡ text_in app id rest
 text_answer {app} {rest} {m} r id = first_value-rows (found_of m) id ∙ ap (first_of id) r.rows
 
@@ -70,7 +70,7 @@ bool_read E (Some t) (Some false) none value = ap (λ u. bytes_eq u (codes "true
 bool_read E (Some t) None none value = sym (differ t (codes "true") (value t refl).1.0)
 
 -- a flag that is found in the matches is the flag in the arguments
-pub flag_answer : (E : Type 0) {app : App} {rest : List Text} {m : ArgMatches} → IsRead app rest m → (id : Text) (r : Option Bool)
+pub flag_answer : (E : Type 0) {app : App} {rest : List Text} {m : ArgMatches} → IsParsed app rest m → (id : Text) (r : Option Bool)
     → (one_text (found_of m) id ≡ None → r ≡ None)
     → ((t : Text) → one_text (found_of m) id ≡ Some t → ReadsOne {E = E} ParsesBool t r) → unwrap_or r false ≡ flag_in app id rest
 flag_answer E {app} {rest} {m} is_read id r none value =

@@ -18,7 +18,7 @@ use Rattle.fv_arguments.proofs.ArgumentReadLemmas.{by_name, faults_read}
 use Rattle.fv_arguments.specs.Words.{compare_app, extract_app, faults_in, flag_in, hobs_app, image_app, text_in, HasInput, HasTexts, IsAtWord}
 use Rattle.fv_arguments.specs.Words.{IsImageWords, IsPartBy, IsVolumeWords, command_app, command_name}
 use Rattle.fv_arguments.specs.declared.words.WordFault.{WordFault}
-use Rattle.fv_arguments.specs.inner.CommandWords.{AreRightFor, AsksOrFails, IsRead, ReadsOrFails, app_named}
+use Rattle.fv_arguments.specs.inner.CommandWords.{AreRightFor, AsksOrFails, IsParsed, ParsesOrFails, app_named}
 use Rattle.fv_arguments.specs.declared.words.WordFault.TheVariants.{Words, OutOfMemory}
 use Rattle.clap.specs.declared.error.kind.ErrorKind.TheVariants as error_kinds
 
@@ -32,7 +32,7 @@ same_app name c is = ap app_named is ∙ named_app c
 
 -- so if the rules for a command's name accepted some arguments, the rules of the command accepted them
 pub read_of : {rest : List (List ℕ)} {m : ArgMatches} (name : List ℕ) (c : Command) → name ≡ command_name c
-    → IsRead (app_named name) rest m → IsRead (command_app c) rest m
+    → IsParsed (app_named name) rest m → IsParsed (command_app c) rest m
 read_of name c is r = rw (same_app name c is) at r
 
 -- a fault of the reader is passed on: out of memory stays out of memory, and any other fault becomes a fault of the
@@ -59,7 +59,7 @@ rejected name given same words e kinds r h =
 
 -- a value is rejected because a value of which it is made is rejected
 pub passed : {X Y : Type 0} (P : X → Type 0) (Q : Y → Type 0) (r : Result Y WordFault) (f : WordFault) → IsErrAnd r (λ g. g ≡ f)
-    → (f ≡ Words → (x : X) → P x → ⊥) → ((y : Y) → Q y → (x : X) × P x) → ReadsOrFails Q r
+    → (f ≡ Words → (x : X) → P x → ⊥) → ((y : Y) → Q y → (x : X) × P x) → ParsesOrFails Q r
 passed P Q (Ok y) f is none has = absurd is
 passed P Q (Err g) f is none has = λ words y q. let x = has y q in none (sym is ∙ words) x.0 x.1
 
@@ -93,8 +93,8 @@ right_input name rest volume right =
 
 -- so a command on one volume is rejected if its input is rejected
 pub no_input : {m : ArgMatches} (f : WordFault) (name : List ℕ) → is_on_volume name ≡ true
-    → ((app : App) (rest : List (List ℕ)) → IsRead app rest m
-    → ReadsOrFails (λ (i : Option ℕ × Option (String Global)). HasInput app rest i.0 i.1) (Err f)) → AsksOrFails name m (Err f)
+    → ((app : App) (rest : List (List ℕ)) → IsParsed app rest m
+    → ParsesOrFails (λ (i : Option ℕ × Option (String Global)). HasInput app rest i.0 i.1) (Err f)) → AsksOrFails name m (Err f)
 no_input f name volume read = λ words rest r right.
     let input = right_input name rest volume right in read (app_named name) rest r words input.0 input.1
 

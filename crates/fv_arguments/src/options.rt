@@ -2,7 +2,7 @@
 
 ghost use Rattle.clap.specs.Words.{App, first_value, found_of};
 ghost use Rattle.fv_arguments.specs.Options.{flag_in};
-ghost use Rattle.fv_arguments.specs.inner.CommandWords.{AreRightFor, AsksOrFails, IsRead, ReadsOrFails};
+ghost use Rattle.fv_arguments.specs.inner.CommandWords.{AreRightFor, AsksOrFails, IsParsed, ParsesOrFails};
 ghost use Rattle.fv_arguments.specs.CommandLines.{AsksBy, HasInput, IsAtWord, IsImageWords, IsInstanceWord, IsNumberWord};
 ghost use Rattle.fv_arguments.specs.CommandLines.{IsNumeralOf, IsPartBy, IsVolumeWords};
 ghost use Rattle.fv_base.specs.Words.{guid_read};
@@ -50,7 +50,7 @@ fn file_of(
 
 // Reads a decimal number, which may have a plus before it.
 pub(crate) fn decimal(text: &str) -> Result<u64, WordFault>
-    ensures { ReadsOrFails (IsNumberWord 64 text.now) result }
+    ensures { ParsesOrFails (IsNumberWord 64 text.now) result }
 {
     match text.parse() {
         Ok(n) => Ok(n),
@@ -60,7 +60,7 @@ pub(crate) fn decimal(text: &str) -> Result<u64, WordFault>
 
 // Reads a hexadecimal number without a prefix. Its digits are in upper or lower case.
 fn hexadecimal(digits: &str) -> Result<u64, WordFault>
-    ensures { ReadsOrFails (IsNumeralOf 16 64 digits.now) result }
+    ensures { ParsesOrFails (IsNumeralOf 16 64 digits.now) result }
 {
     if digits.starts_with('+') {
         return Err(WordFault::Words);
@@ -73,7 +73,7 @@ fn hexadecimal(digits: &str) -> Result<u64, WordFault>
 
 // Reads the byte at which a volume begins: a decimal number, or `0x` and hexadecimal digits.
 pub(crate) fn volume_offset(text: &str) -> Result<u64, WordFault>
-    ensures { ReadsOrFails (λ n. IsAtWord (Some text.now) (Some n)) result }
+    ensures { ParsesOrFails (λ n. IsAtWord (Some text.now) (Some n)) result }
 {
     match text.strip_prefix("0x") {
         Some(digits) => hexadecimal(digits),
@@ -83,7 +83,7 @@ pub(crate) fn volume_offset(text: &str) -> Result<u64, WordFault>
 
 // Reads the byte at which a volume begins, or returns None if there is no text.
 fn volume_offset_of(text: Option<&str>) -> Result<Option<u64>, WordFault>
-    ensures { ReadsOrFails (IsAtWord (option_map (λ s. s.now) text.entry)) result }
+    ensures { ParsesOrFails (IsAtWord (option_map (λ s. s.now) text.entry)) result }
 {
     match text {
         Some(text) => Ok(Some(volume_offset(text)?)),
@@ -97,8 +97,8 @@ fn input_of(
     alloc: Global,
     matches: &ArgMatches<'_>,
 ) -> Result<(Option<u64>, Option<String>), WordFault>
-    ensures { (app : App) (rest : List (List ℕ)) → IsRead app rest matches.now
-        → ReadsOrFails (λ i. HasInput app rest i.0 i.1) result }
+    ensures { (app : App) (rest : List (List ℕ)) → IsParsed app rest matches.now
+        → ParsesOrFails (λ i. HasInput app rest i.0 i.1) result }
 {
     let at = volume_offset_of(matches.get_str("at"))?;
     Ok((at, file_of(alloc, matches, "file")?))
@@ -106,7 +106,7 @@ fn input_of(
 
 // Returns whether the flag with this name is given.
 fn is_given(matches: &ArgMatches<'_>, name: &str) -> bool
-    ensures { (app : App) (rest : List (List ℕ)) → IsRead app rest matches.now → result ≡ flag_in app name.now rest }
+    ensures { (app : App) (rest : List (List ℕ)) → IsParsed app rest matches.now → result ≡ flag_in app name.now rest }
 {
     matches.get_one::<bool>(name).unwrap_or(false)
 }
@@ -156,7 +156,7 @@ fn image_of(
     path: Option<&str>,
     base: Option<&str>,
 ) -> Result<Option<ImageFile>, WordFault>
-    ensures { ReadsOrFails (IsImageWords (option_map (λ s. s.now) path.entry) (option_map (λ s. s.now) base.entry)) result }
+    ensures { ParsesOrFails (IsImageWords (option_map (λ s. s.now) path.entry) (option_map (λ s. s.now) base.entry)) result }
 {
     match (path, base) {
         (None, None) => Ok(None),
@@ -195,7 +195,7 @@ pub(crate) fn section_type(text: &str) -> Option<u8>
 
 // Reads a section type, or returns None if there is no text.
 fn section_of(text: Option<&str>) -> Result<Option<u8>, WordFault>
-    ensures { ReadsOrFails (λ kind. (kind ≡ option_map (digits_value 16) (option_map (λ s. s.now) text.entry))
+    ensures { ParsesOrFails (λ kind. (kind ≡ option_map (digits_value 16) (option_map (λ s. s.now) text.entry))
         × IfSome (option_map (λ s. s.now) text.entry) (λ s. IsNumeral 16 s × (length s ≤ 2))) result }
 {
     let Some(text) = text else {
@@ -209,7 +209,7 @@ fn section_of(text: Option<&str>) -> Result<Option<u8>, WordFault>
 
 // Reads the name of a file, which is a GUID and must be given.
 pub(crate) fn name_of(text: Option<&str>) -> Result<Guid, WordFault>
-    ensures { ReadsOrFails (λ name. option_and_then guid_read (option_map (λ s. s.now) text.entry) ≡ Some name) result }
+    ensures { ParsesOrFails (λ name. option_and_then guid_read (option_map (λ s. s.now) text.entry) ≡ Some name) result }
 {
     let Some(text) = text else {
         return Err(WordFault::Words);
@@ -222,7 +222,7 @@ pub(crate) fn name_of(text: Option<&str>) -> Result<Guid, WordFault>
 
 // Reads which of the sections with the same type is meant: the first if no number is given.
 pub(crate) fn instance_of(text: Option<&str>) -> Result<u32, WordFault>
-    ensures { ReadsOrFails (IsInstanceWord (option_map (λ s. s.now) text.entry)) result }
+    ensures { ParsesOrFails (IsInstanceWord (option_map (λ s. s.now) text.entry)) result }
 {
     let Some(text) = text else {
         return Ok(1);
@@ -239,7 +239,7 @@ fn part_of(
     section: Option<&str>,
     instance: Option<&str>,
 ) -> Result<Part, WordFault>
-    ensures { ReadsOrFails (IsPartBy (option_map (λ s. s.now) name.entry) (option_map (λ s. s.now) section.entry)
+    ensures { ParsesOrFails (IsPartBy (option_map (λ s. s.now) name.entry) (option_map (λ s. s.now) section.entry)
         (option_map (λ s. s.now) instance.entry)) result }
 {
     Ok(Part {
@@ -263,7 +263,7 @@ fn extract(alloc: Global, matches: &ArgMatches<'_>) -> Result<Command, WordFault
 // Returns the volume in the file with this path, which must be given, and the byte at which it
 // begins there.
 fn volume_of(alloc: Global, path: Option<&str>, at: Option<&str>) -> Result<VolumeFile, WordFault>
-    ensures { ReadsOrFails (IsVolumeWords (option_map (λ s. s.now) path.entry) (option_map (λ s. s.now) at.entry)) result }
+    ensures { ParsesOrFails (IsVolumeWords (option_map (λ s. s.now) path.entry) (option_map (λ s. s.now) at.entry)) result }
 {
     let Some(path) = path else {
         return Err(WordFault::Words);

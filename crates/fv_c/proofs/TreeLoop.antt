@@ -16,34 +16,34 @@ use Rattle.fv_section.specs.Words.{up_to_4}
 use Rattle.fv_tree.specs.Words.{Accepted, BeginWithFiles, Meaning, Pairwise, file_form}
 use Rattle.fv_tree.specs.declared.volume_files.LocatedFile.{LocatedFile}
 use Rattle.fv_tree.proofs.Laws.{pairs_push}
-use Rattle.fv_rows.specs.Words.{NestsAt, NodeMeaning, VolumeNode, FileNode, SectionNode, TreeRow as Row, nesting_inside, parts_in, rows_inside, rows_of_nodes}
+use Rattle.fv_rows.specs.Words.{PartNestsAt, NodeMeaning, VolumeNode, FileNode, SectionNode, TreeRow as Row, nesting_inside, parts_in, rows_inside, rows_of_nodes}
 use Rattle.fv_rows.proofs.Laws.{inside_rows, volume_rows}
-use Rattle.fv_c.specs.TreeParts.{TreeRow, with_parents}
-use Rattle.fv_c.specs.ReportedTree.{HasTreeRows, IsNodeIn, IsPlaced}
+use Rattle.fv_c.specs.TreeParts.{NodeRow, with_parents}
+use Rattle.fv_c.specs.ReportedTree.{HasTreeRows, IsNodeIn, IsPartPlaced}
 use Rattle.fv_c.specs.declared.tree.FvNode.{FvNode}
 use Rattle.fv_c.specs.declared.tree.Holder.{Holder}
-use Rattle.fv_c.specs.inner.Trees.{AreAdded, AreRows, HasFiles, HoldsParts, IsStored, depths_after, node_in, row_in, whole_node}
+use Rattle.fv_c.specs.inner.Trees.{AreAdded, AreRows, HasFileNumber, HoldsParts, RowHasFiles, depths_after, node_in, row_in, whole_node}
 use Rattle.fv_canon.proofs.Laws.{pairs_more}
 use Rattle.fv_c.proofs.TreeParents.{depths_joined, later_parts, next_parent, parents_joined}
 use Rattle.fv_c.proofs.TreeRows.{BeginsAt, all_bytes, begins_next, contents, first_item, get_later, lies_in, whole_found}
 
 -- ---- more rows
 
-placed_later : (input : List ℕ) (rows more : List FvNode) (row : FvNode) (node : NodeMeaning) → IsPlaced input rows row node
-    → IsPlaced input (rows ++ more) row node
+placed_later : (input : List ℕ) (rows more : List FvNode) (row : FvNode) (node : NodeMeaning) → IsPartPlaced input rows row node
+    → IsPartPlaced input (rows ++ more) row node
 placed_later input rows more row (VolumeNode m) (accepted, root, inner) =
     (accepted, root, λ ne. let (holder, at, offset) = inner ne in (holder, get_later rows more row.parent holder at, offset))
 placed_later input rows more row (FileNode f) (holder, at, file) = (holder, get_later rows more row.parent holder at, file)
 placed_later input rows more row (SectionNode s) (holder, at, section) = (holder, get_later rows more row.parent holder at, section)
 
-node_later : (input : List ℕ) (rows more : List FvNode) (row : FvNode) (r : TreeRow) → IsNodeIn input rows row r
+node_later : (input : List ℕ) (rows more : List FvNode) (row : FvNode) (r : NodeRow) → IsNodeIn input rows row r
     → IsNodeIn input (rows ++ more) row r
 node_later input rows more row r h = record { is = h.is; within = h.within; placed = placed_later input rows more row r.node h.placed }
 
 -- ---- rows that are added
 
 -- each row adds one depth to the depths of the rows before it
-rows_long : (R : FvNode → TreeRow → Type 0) (rows : List FvNode) (walked : List Row) (before : List ℕ)
+rows_long : (R : FvNode → NodeRow → Type 0) (rows : List FvNode) (walked : List Row) (before : List ℕ)
     → Pairwise R rows (with_parents before walked) → length (depths_after walked before) ≡ length before + length rows
 rows_long R [] [] before are = omega arith
 rows_long R (x ∷ rows) (r ∷ walked) before are = omega (arith, rows_long R rows walked (r.depth ∷ before) are.1)
@@ -89,7 +89,7 @@ pub record Putting (input : List ℕ) (holder : Holder) (nodes : List NodeMeanin
   pub left_is : drop number nodes ≡ left
   pub held : HoldsParts input rows holder nodes
   pub begins : BeginsAt input held.0 number next
-  pub nests : AllByRecursion (NestsAt holder.depth) left
+  pub nests : AllByRecursion (PartNestsAt holder.depth) left
   pub added : (new : List FvNode) → AreAdded input holder.row holder.depth number left rows new
       → AreAdded input holder.row holder.depth 0 nodes old new
 
@@ -99,7 +99,7 @@ module _ {input : List ℕ} {holder : Holder} {nodes : List NodeMeaning} {old ro
   item = first_item nodes left number node p.left_is
 
   -- if the part is a file, the holder stores this file. `node_in` returns a row that reports the part
-  pub part_lies : IsStored holder number node × IsNodeIn input rows (node_in holder number next node) (row_in holder number node)
+  pub part_lies : HasFileNumber holder number node × IsNodeIn input rows (node_in holder number next node) (row_in holder number node)
   part_lies = lies_in p.held.2 number next p.begins p.held.1 node item.0
 
   module _ (row : FvNode) (is : row ≡ node_in holder number next node) where
@@ -107,7 +107,7 @@ module _ {input : List ℕ} {holder : Holder} {nodes : List NodeMeaning} {old ro
     row_found = rw is part_lies.1
 
     -- after the row is added, it holds the parts in its part
-    pub part_holds : (files : Vec LocatedFile Global) → HasFiles input row files.items → HoldsParts input (rows ++ row ∷ [])
+    pub part_holds : (files : Vec LocatedFile Global) → RowHasFiles input row files.items → HoldsParts input (rows ++ row ∷ [])
         (record { row = length rows; depth = holder.depth + 1; offset = row.offset; files = files }) (parts_in node)
     part_holds files are = (
       row,

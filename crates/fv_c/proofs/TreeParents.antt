@@ -15,7 +15,7 @@ use Rattle.fv_tree.specs.Words.{Meaning, Volume}
 use Rattle.fv_rows.specs.Words.{NodeMeaning, VolumeNode, parts_in, TreeRow as Row, nesting_inside, rows_inside, rows_of_nodes}
 use Rattle.fv_rows.specs.Words.{tree_rows as rows_of}
 use Rattle.fv_rows.proofs.Laws.{inside_rows}
-use Rattle.fv_c.specs.TreeParts.{TreeRow, is_first, is_held_by, no_parent, parent_of, rows_held, rows_of_parts, tree_rows, with_parents}
+use Rattle.fv_c.specs.TreeParts.{NodeRow, is_first, is_held_by, no_parent, node_rows, parent_of, rows_held, rows_of_parts, with_parents}
 use Rattle.fv_c.specs.inner.Trees.{depths_after}
 
 -- ---- joined rows
@@ -32,7 +32,7 @@ parents_joined before (r ∷ a) b = rw (parents_joined (r.depth ∷ before) a b)
 -- ---- the parts that a row holds
 
 -- the rows of the parts that row k holds, if it is one of these rows. `before` are the depths of the rows before them
-abbrev held_from : ℕ → List ℕ → List Row → List TreeRow
+abbrev held_from : ℕ → List ℕ → List Row → List NodeRow
 held_from k before [] = []
 held_from k before (r ∷ rows) =
     cond (length before == k) (rows_of_parts (length before) (r.depth + 1) 0 (parts_in r.node)) [] ++ held_from k (r.depth ∷ before) rows
@@ -81,7 +81,7 @@ record Under (depth number : ℕ) (before : List ℕ) (nodes : List NodeMeaning)
 
 -- the order of the rows that row k holds. If row k holds the row r (`t` is true), row k holds none of the rows inside r
 -- (a and b). The rows c and d come after the rows inside r
-in_order : (t : Bool) (r : TreeRow) (a b c d : List TreeRow) → (t ≡ true → (a ≡ []) × (b ≡ []))
+in_order : (t : Bool) (r : NodeRow) (a b c d : List NodeRow) → (t ≡ true → (a ≡ []) × (b ≡ []))
     → cond t (r ∷ (a ++ b) ++ (cond t c [] ++ d)) ((a ++ b) ++ (cond t c [] ++ d)) ≡ cond t (r ∷ c) [] ++ (a ++ (b ++ d))
 in_order true r a b c d none = rw ((none refl).0, (none refl).1)
 in_order false r a b c d none = append_assoc a b d
@@ -93,7 +93,7 @@ under_nodes most depth nesting number before [] few = record {
   long = omega arith;
   later = λ d l. refl;
   first = λ l. refl;
-  held = λ parent k l is small. cond_both (parent == k) [] [] (λ (rows : List TreeRow). [] ≡ rows ++ []) (λ _. refl) (λ _. refl);
+  held = λ parent k l is small. cond_both (parent == k) [] [] (λ (rows : List NodeRow). [] ≡ rows ++ []) (λ _. refl) (λ _. refl);
 }
 under_nodes zero depth nesting number before (node ∷ nodes) few = absurd (omega (arith, few))
 under_nodes (suc most) depth nesting number before (node ∷ nodes) few =
@@ -131,9 +131,9 @@ later_parts depth nesting before nodes =
 under_volume : (m : Meaning) → Under 1 0 (0 ∷ []) (parts_in (VolumeNode m)) (rows_inside 1 0 (VolumeNode m))
 under_volume m = rw (inside_rows 1 0 (VolumeNode m)) (under_nodes _ 1 0 0 (0 ∷ []) (parts_in (VolumeNode m)) (le_refl _))
 
-pub first_is : (m : Meaning) → filter is_first (tree_rows m) ≡ rows_of_parts no_parent 0 0 (VolumeNode m ∷ [])
+pub first_is : (m : Meaning) → filter is_first (node_rows m) ≡ rows_of_parts no_parent 0 0 (VolumeNode m ∷ [])
 first_is (Volume head files) = rw ((under_volume (Volume head files)).first (omega arith))
 
-pub held_are : (m : Meaning) (n : ℕ) → filter (is_held_by n) (tree_rows m) ≡ rows_held n (slice_get (tree_rows m) n)
+pub held_are : (m : Meaning) (n : ℕ) → filter (is_held_by n) (node_rows m) ≡ rows_held n (slice_get (node_rows m) n)
 held_are (Volume head files) n =
     (under_volume (Volume head files)).held 0 n (omega arith) (next_parent 0 []) (omega arith) ∙ held_at n n [] (rows_of (Volume head files)) (omega arith)

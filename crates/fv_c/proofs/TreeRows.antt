@@ -19,11 +19,11 @@ use Rattle.fv_tree.specs.Words.{Pairwise, Plain, Sectioned, SectionMeaning, Sect
 use Rattle.fv_tree.specs.Words.{body_len, body_of, body_place, data_place, file_form, files_of, length_of, sections_list}
 use Rattle.fv_tree.proofs.Laws.{begun_data, body_long, content_long, one_files, volume_files}
 use Rattle.fv_rows.specs.Words.{NodeMeaning, VolumeNode, FileNode, SectionNode, parts_in}
-use Rattle.fv_c.specs.ReportedTree.{IsNodeIn, IsPlaced, bytes_at, reported_node}
-use Rattle.fv_c.specs.TreeParts.{TreeRow}
+use Rattle.fv_c.specs.ReportedTree.{IsNodeIn, IsPartPlaced, bytes_at, reported_node}
+use Rattle.fv_c.specs.TreeParts.{NodeRow}
 use Rattle.fv_c.specs.declared.tree.FvNode.{FvNode}
 use Rattle.fv_c.specs.declared.tree.Holder.{Holder}
-use Rattle.fv_c.specs.inner.Trees.{Contents, HoldsIn, IsStored, node_in, row_in, whole_node, whole_row}
+use Rattle.fv_c.specs.inner.Trees.{Contents, HasFileNumber, HoldsIn, node_in, row_in, whole_node, whole_row}
 use Rattle.fv_canon.proofs.Laws.{accepted, sections_more, stream_more}
 
 -- ---- lists
@@ -75,7 +75,7 @@ next_begins at _ tail i b f g split is next = cc
 
 -- ---- what a row holds
 
-module _ {input : List ℕ} {rows : List FvNode} {row : FvNode} {r : TreeRow} (own : IsNodeIn input rows row r) where
+module _ {input : List ℕ} {rows : List FvNode} {row : FvNode} {r : NodeRow} (own : IsNodeIn input rows row r) where
   no_parts : row.content ≡ 1 → Contents input row []
   no_parts k = record { volume = λ e. absurd (omega (arith, k, e)); none = λ _. refl; part = λ i node is. cc }
 
@@ -91,7 +91,7 @@ module _ {input : List ℕ} {rows : List FvNode} {row : FvNode} {r : TreeRow} (o
   pub contents : Contents input row (parts_in r.node)
   contents = go r.node (ap (λ (x : FvNode). x.content) own.is) (ap (λ (x : FvNode). x.length) own.is) own.placed where
     go : (node : NodeMeaning) → row.content ≡ (reported_node row.offset row.header_length r node).content
-        → row.length ≡ (reported_node row.offset row.header_length r node).length → IsPlaced input rows row node → Contents input row (parts_in node)
+        → row.length ≡ (reported_node row.offset row.header_length r node).length → IsPartPlaced input rows row node → Contents input row (parts_in node)
     go (VolumeNode m) k long placed = record {
       volume = λ _. (m, placed.0);
       none = λ e. absurd (omega (arith, k, e));
@@ -156,7 +156,7 @@ module _ {input : List ℕ} {holder : Holder} {nodes : List NodeMeaning} {row : 
 
   -- if part number i is a file, the holder stores this file. The row `node_in` says where the part lies
   pub lies_in : {rows : List FvNode} → slice_get rows holder.row ≡ Some row → (node : NodeMeaning) → slice_get nodes i ≡ Some node
-      → IsStored holder i node × IsNodeIn input rows (node_in holder i next node) (row_in holder i node)
+      → HasFileNumber holder i node × IsNodeIn input rows (node_in holder i next node) (row_in holder i node)
   lies_in at (VolumeNode m) is =
       let (k, long, means) = holds.contents.part i (VolumeNode m) is in (
         tt,

@@ -1,7 +1,7 @@
 -- Proves that the first fault of an input whose marks of fixed files cannot be taken away has a number of at most 16,
--- and is not Fixed (`kept_number`). `IsKept` states this of a fault. `IsKept` is true of the fault of each check of a
--- header, and of the fault of bytes after the volume. The fault of each check of a cell is Fixed, or `IsKept` is true
--- of this fault (`IsOfCell`), and the first fault is not Fixed.
+-- and is not Fixed (`kept_number`). `IsKindKept` states this of a fault. `IsKindKept` is true of the fault of each check
+-- of a header, and of the fault of bytes after the volume. The fault of each check of a cell is Fixed, or `IsKindKept` is
+-- true of this fault (`IsOfCell`), and the first fault is not Fixed.
 use Rattle.std.proofs.lemmas.Grind.{common_steps}
 use Rattle.std.proofs.Common.{◌≤◌, ◌+◌, ℕ, ◌≢◌, List, Bool, Option, arith, drop, inl, inr, rules, slice_index}
 use Rattle.fv_base.proofs.Laws.{AllByRecursion, Check, First, fault_number, fails_among}
@@ -14,12 +14,12 @@ use Rattle.fv_tree.specs.Words.{IsFirstOfMarked}
 use Rattle.fv_base.specs.declared.fault.FaultKind.TheVariants as kinds
 
 -- the number is at most 16, and is not 15, the number of Fixed
-abbrev IsKept : Fault → Type 0
-IsKept f = (fault_number f.kind ≤ 16) × (fault_number f.kind ≢ 15)
+abbrev IsKindKept : Fault → Type 0
+IsKindKept f = (fault_number f.kind ≤ 16) × (fault_number f.kind ≢ 15)
 
--- the fault is Fixed, or `IsKept` is true of the fault
+-- the fault is Fixed, or `IsKindKept` is true of the fault
 abbrev IsOfCell : Fault → Type 0
-IsOfCell f = f.kind ≢ kinds.Fixed → IsKept f
+IsOfCell f = f.kind ≢ kinds.Fixed → IsKindKept f
 
 file_kinds : (s : FileSystem) (alive : Bool) (at : ℕ) (r : List ℕ) → AllByRecursion (λ (c : Check Fault). IsOfCell c.fault) (file_checks s alive at r)
 file_kinds s alive at r = search rules
@@ -28,8 +28,8 @@ state_kinds : (o : Option FileState) (s : FileSystem) (at : ℕ) (r : List ℕ)
     → AllByRecursion (λ (c : Check Fault). IsOfCell c.fault) (state_checks o s at r)
 state_kinds o s at r = grind (arith, common_steps, file_kinds) steps 150000
 
-pub kept_number : (input : List ℕ) (f : Fault) → IsFirstOfMarked input f → IsKept f
-kept_number input f (inl (inl head)) = fails_among First IsKept (head_checks input) f (search rules) head
+pub kept_number : (input : List ℕ) (f : Fault) → IsFirstOfMarked input f → IsKindKept f
+kept_number input f (inl (inl head)) = fails_among First IsKindKept (head_checks input) f (search rules) head
 kept_number input f (inl (inr (e, o, body, u, fault, other))) =
     let at = e.first + fault.at in
     let r = drop fault.at body in

@@ -4,13 +4,13 @@ use Rattle.std.proofs.Common.{◌≡◌, ℕ, [], ◌∷◌, ◌∙◌, List, ma
 use Rattle.std.proofs.lemmas.Option.{slice_get-map}
 use Rattle.fv_tree.specs.Words.{Meaning, Pairwise}
 use Rattle.fv_rows.specs.Words.{NodeMeaning, TreeRow as Row, tree_rows as rows_of}
-use Rattle.fv_c.specs.TreeParts.{TreeRow, tree_rows, with_parents}
+use Rattle.fv_c.specs.TreeParts.{NodeRow, node_rows, with_parents}
 use Rattle.fv_c.specs.ReportedDigests.{IsReportedDigest}
 use Rattle.fv_c.specs.ExtractedParts.{part_at}
 use Rattle.fv_c.specs.declared.canonical.FvSha256.{FvSha256}
 
 -- the part of a row of the tree, and of a row that `TreeWalk` returns
-abbrev pub part : TreeRow → NodeMeaning
+abbrev pub part : NodeRow → NodeMeaning
 part r = r.node
 
 abbrev pub of_row : Row → NodeMeaning
@@ -23,7 +23,7 @@ same_parts before (r ∷ rows) = rw (same_parts (r.depth ∷ before) rows)
 -- row n of the tree has the same part as row n of the walk
 pub part_found : (m : Meaning) (row : ℕ) (o : Option Row) → o ≡ slice_get (rows_of m) row → part_at row m ≡ option_map of_row o
 part_found m row o is =
-    rw is (sym (slice_get-map part (tree_rows m) row) ∙ rw (same_parts [] (rows_of m)) (slice_get-map of_row (rows_of m) row))
+    rw is (sym (slice_get-map part (node_rows m) row) ∙ rw (same_parts [] (rows_of m)) (slice_get-map of_row (rows_of m) row))
 
 -- ---- the digests
 
@@ -33,7 +33,7 @@ AreRowDigests digests rows = Pairwise (λ (d : FvSha256) (r : Row). IsReportedDi
 
 -- digests of the rows of a walk are digests of the same rows with their parents
 pub with_digests : (digests : List FvSha256) (before : List ℕ) (rows : List Row) → AreRowDigests digests rows
-    → Pairwise (λ (d : FvSha256) (r : TreeRow). IsReportedDigest r.node d.bytes) digests (with_parents before rows)
+    → Pairwise (λ (d : FvSha256) (r : NodeRow). IsReportedDigest r.node d.bytes) digests (with_parents before rows)
 with_digests [] before [] are = tt
 with_digests (d ∷ digests) before (r ∷ rows) are = (are.0, with_digests digests (r.depth ∷ before) rows are.1)
 with_digests _ before _ are = absurd are

@@ -6,11 +6,11 @@ use Rattle.fv_canon.specs.Words.{IsImage, IsData, IsBodyImage, FirstUnplaced}
 use Rattle.fv_tree.specs.Words.{Inside, volumes_in, volumes_in_body, volumes_in_content, Accepted, Meaning}
 use Rattle.fv_tree.specs.Words.{content_of, body_of}
 use Rattle.fv_rows.specs.Words.{NodeMeaning, VolumeNode, FileNode, SectionNode}
-use Rattle.fv_c.specs.TreeParts.{TreeRow, tree_rows}
+use Rattle.fv_c.specs.TreeParts.{NodeRow, node_rows}
 
 -- the part of the row with this number, if the tree has such a row
 abbrev pub part_at : ℕ → Meaning → Option NodeMeaning
-part_at row m = option_map (λ (r : TreeRow). r.node) (slice_get (tree_rows m) row)
+part_at row m = option_map (λ (r : NodeRow). r.node) (slice_get (node_rows m) row)
 
 -- the bytes are the part as the canonical image of its volume contains it: the canonical image of a volume, the data of
 -- a file, or the body of a section
@@ -32,7 +32,7 @@ ExtractsTo row input bytes =
 
 -- the input is a volume whose tree has no row with this number: it has at most `row` rows
 abbrev pub HasNoRow : ℕ → List ℕ → Type 0
-HasNoRow row input = (m : Meaning) × Accepted input m × (length (tree_rows m) ≤ row)
+HasNoRow row input = (m : Meaning) × Accepted input m × (length (node_rows m) ≤ row)
 
 -- the input is a volume whose tree has this row, and f is the fault of the first volume in the row's part that does not
 -- fit. If the part is a volume, it is the first. The depth of f counts only groups and opened volumes inside the part

@@ -4,7 +4,7 @@ use Rattle.std.specs.Prelude.{◌≡◌, ℕ, List, Option, replicate, unwrap_or
 use Rattle.fv_canon.specs.Words.{NodeDigest}
 use Rattle.fv_tree.specs.Words.{Accepted, Meaning, Pairwise}
 use Rattle.fv_rows.specs.Words.{NodeMeaning}
-use Rattle.fv_c.specs.TreeParts.{TreeRow, tree_rows}
+use Rattle.fv_c.specs.TreeParts.{NodeRow, node_rows}
 use Rattle.fv_c.specs.declared.canonical.FvSha256.{FvSha256}
 
 -- the bytes are the digest of the part, or 32 zero bytes if the part has no digest
@@ -16,4 +16,4 @@ IsReportedDigest node bytes =
 pub record HasTreeDigests (input : List ℕ) (digests : List FvSha256) : Type 0 where
   pub meaning : Meaning
   pub volume : Accepted input meaning
-  pub are : Pairwise (λ (d : FvSha256) (r : TreeRow). IsReportedDigest r.node d.bytes) digests (tree_rows meaning)
+  pub are : Pairwise (λ (d : FvSha256) (r : NodeRow). IsReportedDigest r.node d.bytes) digests (node_rows meaning)

@@ -12,7 +12,7 @@ use Rattle.fv_tree.specs.Words.{attributes_of, section_kind_of, section_is_exten
 use Rattle.fv_rows.specs.Words.{NodeMeaning, VolumeNode, FileNode, SectionNode}
 use Rattle.fv_c.specs.ReportedHeaders.{volume_name}
 use Rattle.fv_c.specs.Reports.{system_number}
-use Rattle.fv_c.specs.TreeParts.{TreeRow, tree_rows}
+use Rattle.fv_c.specs.TreeParts.{NodeRow, node_rows}
 use Rattle.fv_c.specs.declared.tree.FvNode.{FvNode}
 
 -- ---- a row
@@ -33,7 +33,7 @@ body_number (Nested _) = 3
 -- bytes without an extended header) and by its file system; a file by Type, by Attributes without
 -- FFS_ATTRIB_LARGE_FILE and by Name; a section by Type. `length` is the length of the volume, of the file's data, or of
 -- the section's body. `content` is 0 for files, 1 for bytes, 2 for sections, 3 for a volume
-abbrev pub reported_node : (offset stored : ℕ) → TreeRow → NodeMeaning → FvNode
+abbrev pub reported_node : (offset stored : ℕ) → NodeRow → NodeMeaning → FvNode
 reported_node offset stored r (VolumeNode m) = record {
   offset = offset;
   length = length_of m;
@@ -117,22 +117,22 @@ Held rows row P = (holder : FvNode) × (slice_get rows row.parent ≡ Some holde
 -- the part lies in the input at the row's offset, inside the part that holds it. If it is a volume, the bytes there are
 -- a volume with this meaning: a volume that no row holds begins at offset 0 of the input, and any other volume begins
 -- where the body of its section begins
-abbrev pub IsPlaced : (input : List ℕ) (rows : List FvNode) (row : FvNode) → NodeMeaning → Type 0
-IsPlaced input rows row (VolumeNode m) =
+abbrev pub IsPartPlaced : (input : List ℕ) (rows : List FvNode) (row : FvNode) → NodeMeaning → Type 0
+IsPartPlaced input rows row (VolumeNode m) =
     Accepted (bytes_at input row) m × (row.depth ≡ 0 → row.offset ≡ 0)
     × (row.depth ≢ 0 → Held rows row (λ holder. row.offset ≡ holder.offset))
-IsPlaced input rows row (FileNode f) = Held rows row (λ holder. IsFileIn input holder row f)
-IsPlaced input rows row (SectionNode s) = Held rows row (λ holder. IsSectionIn input holder row s)
+IsPartPlaced input rows row (FileNode f) = Held rows row (λ holder. IsFileIn input holder row f)
+IsPartPlaced input rows row (SectionNode s) = Held rows row (λ holder. IsSectionIn input holder row s)
 
 -- `row` reports the row r of the tree: it has the fields of r, its bytes are within the input, and its part lies there
--- (`IsPlaced`)
-pub record IsNodeIn (input : List ℕ) (rows : List FvNode) (row : FvNode) (r : TreeRow) : Type 0 where
+-- (`IsPartPlaced`)
+pub record IsNodeIn (input : List ℕ) (rows : List FvNode) (row : FvNode) (r : NodeRow) : Type 0 where
   pub is : row ≡ reported_node row.offset row.header_length r r.node
   pub within : row.offset + row.length ≤ length input
-  pub placed : IsPlaced input rows row r.node
+  pub placed : IsPartPlaced input rows row r.node
 
 -- the input is a volume, and these are the rows of its tree
 pub record HasTreeRows (input : List ℕ) (rows : List FvNode) : Type 0 where
   pub meaning : Meaning
   pub volume : Accepted input meaning
-  pub nodes : Pairwise (IsNodeIn input rows) rows (tree_rows meaning)
+  pub nodes : Pairwise (IsNodeIn input rows) rows (node_rows meaning)

@@ -5,7 +5,7 @@ ghost use Rattle.std.specs.List.{filter};
 ghost use Rattle.fv_tree.specs.Words.{FileMeaning, Meaning, SectionMeaning};
 ghost use Rattle.fv_tree.specs.Words.{Accepted, plain_of, content_of, leaf_of, body_of};
 ghost use Rattle.fv_rows.specs.Words.{VolumeNode, FileNode, SectionNode};
-ghost use Rattle.fv_c.specs.TreeParts.{TreeRow, is_first, is_held_by, no_parent, rows_held, rows_of_parts, tree_rows};
+ghost use Rattle.fv_c.specs.TreeParts.{NodeRow, is_first, is_held_by, no_parent, node_rows, rows_held, rows_of_parts};
 ghost use Rattle.fv_c.specs.ReportedTree.{IsNodeIn, bytes_at};
 ghost use Rattle.fv_c.specs.declared.tree.FvNode.{FvNode};
 
@@ -16,9 +16,9 @@ ghost use Rattle.fv_c.specs.declared.tree.FvNode.{FvNode};
 /// There are none if row `n` holds bytes, or if there is no row `n`. (PI specification, volume 3,
 /// sections 3.2.1, 3.2.3 and 3.2.4.)
 pub fn rows_have_their_parent()
-    ensures first { (m : Meaning) → filter is_first (tree_rows m) ≡ rows_of_parts no_parent 0 0 (VolumeNode m ∷ []) }
-    ensures inner { (m : Meaning) (n : ℕ) → filter (is_held_by n) (tree_rows m)
-        ≡ rows_held n (slice_get (tree_rows m) n) }
+    ensures first { (m : Meaning) → filter is_first (node_rows m) ≡ rows_of_parts no_parent 0 0 (VolumeNode m ∷ []) }
+    ensures inner { (m : Meaning) (n : ℕ) → filter (is_held_by n) (node_rows m)
+        ≡ rows_held n (slice_get (node_rows m) n) }
 {}
 
 /// States which bytes of the input are at the places of the rows that `fvp_volume_tree` writes. At
@@ -26,10 +26,10 @@ pub fn rows_have_their_parent()
 /// of a file with plain data it has these data, and at the place of a section that holds bytes it
 /// has these bytes. (PI specification, volume 3, sections 3.2.1, 3.2.3 and 3.2.4.)
 pub fn rows_have_their_bytes()
-    ensures volume { (input : List ℕ) (rows : List FvNode) (row : FvNode) (r : TreeRow) (m : Meaning)
+    ensures volume { (input : List ℕ) (rows : List FvNode) (row : FvNode) (r : NodeRow) (m : Meaning)
         → IsNodeIn input rows row r → r.node ≡ VolumeNode m → Accepted (bytes_at input row) m }
-    ensures file { (input : List ℕ) (rows : List FvNode) (row : FvNode) (r : TreeRow) (f : FileMeaning) (b : List ℕ)
+    ensures file { (input : List ℕ) (rows : List FvNode) (row : FvNode) (r : NodeRow) (f : FileMeaning) (b : List ℕ)
         → IsNodeIn input rows row r → r.node ≡ FileNode f → plain_of (content_of f) ≡ Some b → bytes_at input row ≡ b }
-    ensures section { (input : List ℕ) (rows : List FvNode) (row : FvNode) (r : TreeRow) (s : SectionMeaning) (b : List ℕ)
+    ensures section { (input : List ℕ) (rows : List FvNode) (row : FvNode) (r : NodeRow) (s : SectionMeaning) (b : List ℕ)
         → IsNodeIn input rows row r → r.node ≡ SectionNode s → leaf_of (body_of s) ≡ Some b → bytes_at input row ≡ b }
 {}

@@ -7,12 +7,12 @@ ghost use Rattle.fv_base.specs.Words.{OrMemory, fault_number, out_of_memory, vol
 ghost use Rattle.fv_base.specs.declared.fault.Fault.{Fault};
 ghost use Rattle.fv_tree.specs.Words.{Accepted, BeginWithFiles, NotRead, body_of, content_of, file_form};
 ghost use Rattle.fv_c.specs.Reports.{BeginsWithHeader, reported_fault, no_fault};
-ghost use Rattle.fv_rows.specs.Words.{NestsAt, nodes_of, part_node};
-ghost use Rattle.fv_c.specs.TreeParts.{TreeRow};
+ghost use Rattle.fv_rows.specs.Words.{PartNestsAt, nodes_of, part_node};
+ghost use Rattle.fv_c.specs.TreeParts.{NodeRow};
 ghost use Rattle.fv_c.specs.ReportedTree.{HasTreeRows, IsNodeIn, bytes_at};
 ghost use Rattle.fv_c.specs.ReportedTree.{body_number, content_number};
 ghost use Rattle.fv_c.specs.ReportedHeaders.{volume_name};
-ghost use Rattle.fv_c.specs.inner.Trees.{AreAdded, HasFiles, HoldsParts, IsStored, IsWithin, node_in};
+ghost use Rattle.fv_c.specs.inner.Trees.{AreAdded, EndsBefore, HasFileNumber, HoldsParts, RowHasFiles, node_in};
 
 use crate::buffer::put_result;
 use crate::reports::{FvFault, system_number};
@@ -141,8 +141,8 @@ fn body_number(section: &SectionView<'_, '_>) -> u32
 // before the part, if it is a section.
 #[inline(always)]
 fn node_in(holder: &Holder, part: &Part<'_, '_>, number: u64, next: u64) -> FvNode
-    requires file { IsStored holder.now number (part_node part.now) }
-    requires within { IsWithin (2 ^ 63) (node_in holder.now number next (part_node part.now)) }
+    requires file { HasFileNumber holder.now number (part_node part.now) }
+    requires within { EndsBefore (2 ^ 63) (node_in holder.now number next (part_node part.now)) }
     ensures { result ≡ node_in holder.now number next (part_node part.now) }
 {
     let placed = FvNode {
@@ -206,8 +206,8 @@ fn bytes_of_row<'a>(input: &'a [u8], node: &FvNode) -> &'a [u8]
 
 // Returns the files that are stored in the part of a row, if it is a volume.
 fn files_in(alloc: Global, input: &[u8], node: &FvNode) -> Result<Vec<LocatedFile>, Fault>
-    requires row { (rows : List FvNode) × (r : TreeRow) × IsNodeIn input.now rows node.now r }
-    ensures files { IfOk result (λ v. HasFiles input.now node.now v.items) }
+    requires row { (rows : List FvNode) × (r : NodeRow) × IsNodeIn input.now rows node.now r }
+    ensures files { IfOk result (λ v. RowHasFiles input.now node.now v.items) }
     ensures err { IfErr result (λ f. f ≡ out_of_memory) }
 {
     if node.content != FILES {
@@ -225,7 +225,7 @@ fn put_parts(
     rows: &mut Vec<FvNode>,
 ) -> Result<(), Fault>
     requires short { length input.now ≤ volume_limit }
-    requires nest { AllByRecursion (NestsAt holder.now.depth) (nodes_of parts) }
+    requires nest { AllByRecursion (PartNestsAt holder.now.depth) (nodes_of parts) }
     requires few { length (nodes_of parts) < 2 ^ 63 }
     requires held { HoldsParts input.now rows.old.items holder.now (nodes_of parts) }
     ensures ok { OnOk result (AreAdded input.now holder.now.row holder.now.depth 0 (nodes_of parts.entry) rows.old.items rows.new.items) }

@@ -7,7 +7,7 @@ ghost use Rattle.fv_base.specs.declared.fault.Fault.{Fault};
 ghost use Rattle.fv_canon.specs.Words.{AreAllStarts, NormalisesTo, Rejects};
 ghost use Rattle.fv_c.specs.Reports.{BeginsWithHeader, reported_fault, no_fault};
 ghost use Rattle.fv_tree.specs.Words.{Pairwise};
-ghost use Rattle.fv_c.specs.TreeParts.{TreeRow, tree_rows};
+ghost use Rattle.fv_c.specs.TreeParts.{NodeRow, node_rows};
 ghost use Rattle.fv_c.specs.ReportedDigests.{HasTreeDigests, IsReportedDigest};
 
 use crate::buffer::put_found;
@@ -27,8 +27,8 @@ fn row_digests(
     starts: &[u64],
 ) -> Result<Vec<FvSha256>, AllocError>
     requires { AreAllStarts volume.now starts.now }
-    ensures { IfOk result (λ v. Pairwise (λ (d : FvSha256) (r : TreeRow). IsReportedDigest r.node d.bytes)
-        v.items (tree_rows volume.now)) }
+    ensures { IfOk result (λ v. Pairwise (λ (d : FvSha256) (r : NodeRow). IsReportedDigest r.node d.bytes)
+        v.items (node_rows volume.now)) }
 {
     let mut found = Vec::new(alloc);
     let mut digests = ImageDigests::new(starts);

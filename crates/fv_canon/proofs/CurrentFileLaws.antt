@@ -9,15 +9,16 @@ use Rattle.fv_base.proofs.Laws.{common_steps, AllByRecursion, filter, list_any, 
 use Rattle.std.proofs.lemmas.Bool.{and_right, false_from_ne_true}
 use Rattle.fv_base.specs.declared.flash.Polarity.{Polarity}
 use Rattle.fv_placement.specs.Words.{StartsFollow}
-use Rattle.fv_tree.specs.Words.{FileForm, is_marked, same_name, is_twin, NoTwins, replaced_by, current_in, top_name, TopAtEnd}
+use Rattle.fv_tree.specs.Words.{FileForm, is_marked, is_stored_twin, NoStoredTwins, superseded_by, current_in, top_name, TopAtEnd}
+use Rattle.fv_tree.specs.inner.NameForms.{same_stored_name}
 use Rattle.fv_canon.specs.Words.{StoredFile, stored_len}
 use Rattle.fv_canon.proofs.ImageParts.{stored_item}
 use Rattle.fv_canon.proofs.StoredTilingLaws.{forms_of}
 use Rattle.fv_tree.proofs.Laws.{names_differ, same_name_back}
 
 -- ---- names
-abbrev pub names_in : List FileForm → List (List ℕ)
-names_in fs = map (λ f. bytes_of f.head.name) fs
+abbrev pub stored_names : List FileForm → List (List ℕ)
+stored_names fs = map (λ f. bytes_of f.head.name) fs
 
 abbrev pub names_of : List StoredFile → List (List ℕ)
 names_of fs = map (λ f. bytes_of f.name) fs
@@ -28,19 +29,19 @@ NamesApart [] = Unit {0}
 NamesApart (n ∷ ns) = (list_any (bytes_eq n) ns ≡ false) × NamesApart ns
 
 -- no current file after a current file f has the name of f
-none_named : (fs before : List FileForm) (f : FileForm) (mid xs : List FileForm) → NoTwins fs → current_in fs ≡ before ++ (f ∷ (mid ++ xs))
-    → list_any (bytes_eq (bytes_of f.head.name)) (names_in xs) ≡ false
+none_named : (fs before : List FileForm) (f : FileForm) (mid xs : List FileForm) → NoStoredTwins fs → current_in fs ≡ before ++ (f ∷ (mid ++ xs))
+    → list_any (bytes_eq (bytes_of f.head.name)) (stored_names xs) ≡ false
 none_named fs before f mid [] none is = refl
-none_named fs before f mid (x ∷ xs) none is = or_both (same_name f x) (list_any (bytes_eq (bytes_of f.head.name)) (names_in xs))
-    (false_from_ne_true (same_name f x) (λ same. names_differ fs before f mid x xs none is same (same_name_back f x same)))
+none_named fs before f mid (x ∷ xs) none is = or_both (same_stored_name f x) (list_any (bytes_eq (bytes_of f.head.name)) (stored_names xs))
+    (false_from_ne_true (same_stored_name f x) (λ same. names_differ fs before f mid x xs none is same (same_name_back f x same)))
     (none_named fs before f (mid ++ x ∷ []) xs none (rw append_assoc is))
 
-names_apart : (fs before xs : List FileForm) → NoTwins fs → current_in fs ≡ before ++ xs → NamesApart (names_in xs)
+names_apart : (fs before xs : List FileForm) → NoStoredTwins fs → current_in fs ≡ before ++ xs → NamesApart (stored_names xs)
 names_apart fs before [] none is = tt
 names_apart fs before (x ∷ xs) none is = (none_named fs before x [] xs none is, names_apart fs (before ++ x ∷ []) xs none (rw append_assoc is))
 
 -- no two of the names of current files are equal
-pub current_apart : (fs : List FileForm) → NoTwins fs → NamesApart (names_in (current_in fs))
+pub current_apart : (fs : List FileForm) → NoStoredTwins fs → NamesApart (stored_names (current_in fs))
 current_apart fs none = names_apart fs [] (current_in fs) none refl
 
 -- ---- files of a written body
@@ -52,11 +53,11 @@ pub forms_unmarked : (p : Polarity) (fs : List StoredFile) (ss : List ℕ) → N
 forms_unmarked p (f ∷ fs) (s ∷ ss) = (refl, forms_unmarked p fs ss)
 forms_unmarked p fs ss = tt
 
-replaces_none : (f : FileForm) → is_marked f.head.state ≡ false → (all : List FileForm) → list_any (replaced_by f) all ≡ false
+replaces_none : (f : FileForm) → is_marked f.head.state ≡ false → (all : List FileForm) → list_any (superseded_by f) all ≡ false
 replaces_none f e [] = refl
-replaces_none f e (g ∷ gs) = rw e (rw (and_right (same_name f g) false refl) (replaces_none f e gs))
+replaces_none f e (g ∷ gs) = rw e (rw (and_right (same_stored_name f g) false refl) (replaces_none f e gs))
 
-all_kept : (all xs : List FileForm) → NoneMarked xs → filter (λ f. not (list_any (replaced_by f) all)) xs ≡ xs
+all_kept : (all xs : List FileForm) → NoneMarked xs → filter (λ f. not (list_any (superseded_by f) all)) xs ≡ xs
 all_kept all [] none = refl
 all_kept all (f ∷ fs) none = rw (replaces_none f none.0 all) (ap (λ (xs : List FileForm). f ∷ xs) (all_kept all fs none.1))
 
@@ -64,13 +65,13 @@ pub all_current : (xs : List FileForm) → NoneMarked xs → current_in xs ≡ x
 all_current xs none = all_kept xs xs none
 
 -- a file has no twin among files that do not have its name
-twins_none : (f : FileForm) (xs : List FileForm) → list_any (bytes_eq (bytes_of f.head.name)) (names_in xs) ≡ false
-    → list_any (is_twin f) xs ≡ false
+twins_none : (f : FileForm) (xs : List FileForm) → list_any (bytes_eq (bytes_of f.head.name)) (stored_names xs) ≡ false
+    → list_any (is_stored_twin f) xs ≡ false
 twins_none f [] e = refl
 twins_none f (x ∷ xs) e =
-    grind (arith, common_steps, or_parts, twins_none f xs (or_parts (same_name f x) (list_any (bytes_eq (bytes_of f.head.name)) (names_in xs)) e).1) steps 400000
+    grind (arith, common_steps, or_parts, twins_none f xs (or_parts (same_stored_name f x) (list_any (bytes_eq (bytes_of f.head.name)) (stored_names xs)) e).1) steps 400000
 
-pub no_twins : (xs : List FileForm) → NamesApart (names_in xs) → NoTwins xs
+pub no_twins : (xs : List FileForm) → NamesApart (stored_names xs) → NoStoredTwins xs
 no_twins [] h = tt
 no_twins (f ∷ fs) h = (twins_none f fs h.0, no_twins fs h.1)
 
@@ -80,7 +81,7 @@ abbrev pub TopLast : List (List ℕ) → Type 0
 TopLast (n ∷ k ∷ ns) = (bytes_eq n top_name ≡ false) × TopLast (k ∷ ns)
 TopLast ns = Unit {0}
 
-pub top_last : (length : ℕ) (xs : List FileForm) → TopAtEnd length xs → TopLast (names_in xs)
+pub top_last : (length : ℕ) (xs : List FileForm) → TopAtEnd length xs → TopLast (stored_names xs)
 top_last length (f ∷ g ∷ fs) h = (h.0, top_last length (g ∷ fs) h.1)
 top_last length fs h = tt
 
@@ -93,7 +94,7 @@ forms_top p total e fs ss h follow = tt
 
 -- the files of a written body have the names of the stored files
 pub form_names : (p : Polarity) (total e : ℕ) (fs : List StoredFile) (ss : List ℕ) → StartsFollow total e (map stored_item fs) ss
-    → names_in (forms_of p fs ss) ≡ names_of fs
+    → stored_names (forms_of p fs ss) ≡ names_of fs
 form_names p total e [] ss follow = refl
 form_names p total e (f ∷ fs) [] follow = absurd follow
 form_names p total e (f ∷ fs) (s ∷ ss) follow =

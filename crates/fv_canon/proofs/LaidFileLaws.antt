@@ -13,7 +13,7 @@ use Rattle.fv_file.specs.Words.{file_sum_for, file_head_of}
 use Rattle.fv_file.proofs.Laws.{cell_read, header_least}
 use Rattle.fv_tree.specs.Words.{FileMeaning, File, file_name_of, attributes_of, content_of, data_len_of, files_from, file_kind_of, IsReadFile, Stream}
 use Rattle.fv_tree.specs.Words.{volumes_in_file}
-use Rattle.fv_canon.specs.inner.ImageOf.{stored_of, stored_file, data_of, starts_in, files_bytes}
+use Rattle.fv_canon.specs.inner.ImageOf.{stored_of, stored_file, written_data, starts_in, files_bytes}
 use Rattle.fv_canon.specs.Words.{BeginsWithStarts, IsData, size_for, stored_bytes, gap_bytes}
 use Rattle.fv_canon.proofs.ImageParts.{TakesFront}
 use Rattle.fv_canon.proofs.WrittenImageLaws.{data_made, streams_made}
@@ -23,16 +23,16 @@ use Rattle.fv_canon.specs.inner.FileWalks.{ArePlaced}
 
 -- ---- a file
 pub file_laid : (m : FileMeaning) (starts : List ℕ) → IsReadFile m → BeginsWithStarts (volumes_in_file m) starts
-    → IsData (content_of m) (data_of (content_of m) starts) × (length (data_of (content_of m) starts) ≡ data_len_of m)
+    → IsData (content_of m) (written_data (content_of m) starts) × (length (written_data (content_of m) starts) ≡ data_len_of m)
 file_laid (File name kind attributes content) starts (n, l, f, (system, p, b, small, most, cell), (named, kinds, bits, is)) begins =
     let bytes = (cell_read system p f.offset f.head f.payload b small cell).payload in
     let image = data_made (Stream n) (streams_made n) kind content f.payload starts bytes is begins in
-    (image, (data_again n kind (streams_again n) content f.payload (data_of content starts) bytes is image).2)
+    (image, (data_again n kind (streams_again n) content f.payload (written_data content starts) bytes is image).2)
 
 -- the bytes of the file are its header, for the length that the layout assumed, and then its data
-pub stored_is : (p : Polarity) (m : FileMeaning) (starts : List ℕ) → length (data_of (content_of m) starts) ≡ data_len_of m
+pub stored_is : (p : Polarity) (m : FileMeaning) (starts : List ℕ) → length (written_data (content_of m) starts) ≡ data_len_of m
     → stored_bytes p (stored_file m starts) ≡ file_head_of (file_name_of m) (file_kind_of m) (record { 0 = attributes_of m })
-    (data_len_of m) (file_sum_for (attributes_of m) (data_of (content_of m) starts)) p ++ data_of (content_of m) starts
+    (data_len_of m) (file_sum_for (attributes_of m) (written_data (content_of m) starts)) p ++ written_data (content_of m) starts
 unfolding stored_bytes
 stored_is p (File name kind attributes content) starts long = grind (arith, common_steps)
 
@@ -79,7 +79,7 @@ at_file total e fs own i f l is placed =
 
 -- the bytes that are left at a file are its gap, the file and its filler, and then the files after it
 pub walk_goes : (p : Polarity) (total e : ℕ) (fs : List FileMeaning) (own : List ℕ) (i : ℕ) (f : FileMeaning) (starts : List ℕ)
-    → AtFile total e fs own i f → length (data_of (content_of f) starts) ≡ data_len_of f
+    → AtFile total e fs own i f → length (written_data (content_of f) starts) ≡ data_len_of f
     → files_bytes p total e (stored_of (files_from (drop i fs)) starts) (drop i own)
     ≡ (gap_bytes p (get_or own i 0 - e) ++ (stored_bytes p (stored_file f starts)
     ++ replicate (up_to_8 (get_or own i 0 + size_for (data_len_of f)) - (get_or own i 0 + size_for (data_len_of f))) (erased_byte p)))

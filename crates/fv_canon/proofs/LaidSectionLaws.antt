@@ -13,7 +13,7 @@ use Rattle.fv_section.proofs.Laws.{begun_bytes, fits, length_begun}
 use Rattle.fv_tree.specs.Words.{BodyMeaning, MeansSection, SectionMeanings, NoSections, MoreSections, SectionMeaning, Section, body_len}
 use Rattle.fv_tree.specs.Words.{sections_from, body_of, section_is_extended, section_kind_of, section_len, IsReadSection, volumes_in_section}
 use Rattle.fv_tree.specs.Words.{volumes_in_body}
-use Rattle.fv_canon.specs.inner.ImageOf.{frames_of, frame_of, body_image, starts_in}
+use Rattle.fv_canon.specs.inner.ImageOf.{written_frames, frame_of, body_image, starts_in}
 use Rattle.fv_canon.proofs.ImageParts.{sections_bytes, TakesFront}
 use Rattle.fv_canon.specs.Words.{BeginsWithStarts, IsBodyImage}
 use Rattle.fv_tree.proofs.Laws.{body_long, in_section, section_long}
@@ -46,7 +46,7 @@ section_laid (Section kind extended body) starts (n, l, f, (b, small, most, stan
 
 -- ---- a stream, wherever its first section begins
 stream_whole : (at : ℕ) (s : SectionMeaning) (ss : SectionMeanings) (starts : List ℕ) (tail : ℕ)
-    → stream_of (frames_of at (MoreSections s ss) starts) tail ≡ sections_bytes 0 (MoreSections s ss) starts ++ replicate tail 0
+    → stream_of (written_frames at (MoreSections s ss) starts) tail ≡ sections_bytes 0 (MoreSections s ss) starts ++ replicate tail 0
 stream_whole at (Section k e b) NoSections starts tail = simp append_assoc
 stream_whole at (Section k e b) (MoreSections t ss) starts tail =
     let s : SectionMeaning = Section k e b in
@@ -83,7 +83,7 @@ front_more takes laws s t u v w whole rest a b c left f e p q r = grind (arith, 
 pub front_end : {S : Type 0} (takes : S → List ℕ → S → Type 0) → WalkLaws takes
     → (ss left : List SectionMeaning) (s t u : S) (gap : ℕ) (starts rest : List ℕ) (tail : ℕ) → left ≡ [] → 0 < length ss
     → TakesFront takes s t (sections_bytes 0 (sections_from ss) starts) (sections_bytes gap (sections_from left) rest)
-    → takes t (replicate tail 0) u → takes s (stream_of (frames_of 0 (sections_from ss) starts) tail) u
+    → takes t (replicate tail 0) u → takes s (stream_of (written_frames 0 (sections_from ss) starts) tail) u
 front_end takes laws [] left s t u gap starts rest tail none some f p = absurd (omega (arith, some))
 front_end takes laws (x ∷ xs) left s t u gap starts rest tail none some f p =
     let g = rw (none, append-nil) at f.whole_is in rw (stream_whole 0 x (sections_from xs) starts tail, ← g) (laws.joined f.taken p)
@@ -92,6 +92,6 @@ front_end takes laws (x ∷ xs) left s t u gap starts rest tail none some f p =
 pub front_none : {S : Type 0} (takes : S → List ℕ → S → Type 0) (ss left : List SectionMeaning) (s t : S) (gap : ℕ)
     (starts rest : List ℕ) (tail : ℕ) → left ≡ [] → left ≡ ss
     → TakesFront takes s t (sections_bytes 0 (sections_from ss) starts) (sections_bytes gap (sections_from left) rest)
-    → takes s (stream_of (frames_of 0 (sections_from ss) starts) tail) t
+    → takes s (stream_of (written_frames 0 (sections_from ss) starts) tail) t
 front_none takes [] [] s t gap starts rest tail none same f = subst (λ ys. takes s ys t) (sym (append-nil f.front) ∙ f.whole_is) f.taken
 front_none takes ss left s t gap starts rest tail none same f = absurd (grind arith)

@@ -4,9 +4,9 @@
 --    laid out have images (`laid_images`).
 -- 2. If the first volumes are laid out and the next volume is rejected, this volume is the first that is rejected
 --    (`lays_stop`).
--- 3. The loop keeps `Puts`: the bytes that were put so far, followed by the rest of any renewed image, are a renewed
---    image. `Puts` holds at first (`laid_none`) and after each volume (`laid_more`). At the end all bytes are put
---    (`laid_all`).
+-- 3. The loop keeps `PutsVolumes`: the bytes that were put so far, followed by the rest of any renewed image, are a
+--    renewed image. `PutsVolumes` holds at first (`laid_none`) and after each volume (`laid_more`). At the end all bytes
+--    are put (`laid_all`).
 -- 4. So a flash image whose volumes are laid out has a renewed image (`laid_renewed`).
 use Rattle.std.proofs.Common.{◌≡◌, ◌≢◌, ◌⊎◌, ◌≤◌, ◌<◌, ◌+◌, ◌-◌, ℕ, [], ◌∷◌, ◌++◌, List, length, take, drop, get_or, refl, sym, ap, ◌∙◌, subst, arith}
 use Rattle.std.proofs.Common.{length-take}
@@ -19,7 +19,7 @@ use Rattle.fv_tree.specs.Words.{Accepted, moved_fault, Meaning, head_of}
 use Rattle.fv_flash.specs.Words.{Found, VolumeAt, offsets_of}
 use Rattle.fv_flash.specs.declared.scanner.FoundVolume.{FoundVolume}
 use Rattle.fv_canon.specs.Words.{IsImage, NormalisesTo, Rejects, FirstRejected, HasImageAt, NormalisesAll, RejectedAt, AreLaid, IsLaid, IsLaidOut}
-use Rattle.fv_canon.specs.Words.{starts_of}
+use Rattle.fv_canon.specs.Words.{volume_starts}
 use Rattle.fv_canon.specs.declared.flash_image.LocatedVolume.{LocatedVolume}
 use Rattle.fv_canon.proofs.FlashImageLaws.{RenewsFrom, renewed_is, renews_more}
 use Rattle.fv_canon.proofs.ImageLaws.{image_stays_long}
@@ -44,7 +44,7 @@ laid_long b p n m v accepted = grind (arith, common_steps, length-take-le, lengt
 
 -- all volumes that are laid out have images
 laid_images : (b : List ℕ) (volumes : List LocatedVolume) → AllByRecursion (IsLaid b) volumes
-    → AllByRecursion (HasImageAt b) (starts_of volumes)
+    → AllByRecursion (HasImageAt b) (volume_starts volumes)
 laid_images b [] all = tt
 laid_images b (v ∷ vs) ((n, at, accepted, image), all) = ((n, image.0, at, (v.laid, accepted, image.1)), laid_images b vs all)
 
@@ -73,31 +73,31 @@ laid_ends b volumes i v (short, places, found, (same, all)) less is =
 
 -- the sink took `bytes`, the first `from` bytes of a renewed image. If bytes follow in which the volumes that are left
 -- are renewed, all these bytes are a whole renewed image
-pub record Puts {S : Type 0} (takes : S → List ℕ → S → Type 0) (s t : S) (b : List ℕ) (volumes left : List LocatedVolume) (from : ℕ) : Type 0 where
+pub record PutsVolumes {S : Type 0} (takes : S → List ℕ → S → Type 0) (s t : S) (b : List ℕ) (volumes left : List LocatedVolume) (from : ℕ) : Type 0 where
   pub bytes : List ℕ
   pub taken : takes s bytes t
   pub long : length bytes ≡ from
   pub inside : from ≤ length b
-  pub found : FoundFrom from b (starts_of left)
+  pub found : FoundFrom from b (volume_starts left)
   pub laid : AllByRecursion (IsLaid b) left
-  pub whole : (rest : List ℕ) → RenewsFrom from b (starts_of left) (bytes ++ rest) → RenewsFrom 0 b (starts_of volumes) (bytes ++ rest)
+  pub whole : (rest : List ℕ) → RenewsFrom from b (volume_starts left) (bytes ++ rest) → RenewsFrom 0 b (volume_starts volumes) (bytes ++ rest)
 
 module _ {S : Type 0} (takes : S → List ℕ → S → Type 0) (laws : WalkLaws takes) (s : S) (b : List ℕ) (volumes : List LocatedVolume) where
   -- at first nothing is put
-  pub laid_none : IsLaidOut b volumes → Puts takes s s b volumes volumes 0
+  pub laid_none : IsLaidOut b volumes → PutsVolumes takes s s b volumes volumes 0
   laid_none (short, places, found, (same, all)) = grind (arith, common_steps, found_walk) steps 400000
 
   -- the next volume begins after the bytes that were put, and lies within the flash image
   pub laid_next : {t : S} (left : List LocatedVolume) (from : ℕ) (v : LocatedVolume) (vs : List LocatedVolume)
-      → Puts takes s t b volumes left from → left ≡ v ∷ vs → (from ≤ v.start) × (v.start ≤ length b)
+      → PutsVolumes takes s t b volumes left from → left ≡ v ∷ vs → (from ≤ v.start) × (v.start ≤ length b)
   laid_next {t} left from v vs puts' now = grind (arith, common_steps, at_within) steps 400000
 
-  -- after the bytes up to the next volume and this volume's image are put, `Puts` holds again
+  -- after the bytes up to the next volume and this volume's image are put, `PutsVolumes` holds again
   pub laid_more : {t u w : S} (left : List LocatedVolume) (from : ℕ) (v : LocatedVolume) (vs : List LocatedVolume) (gap image : List ℕ)
-      → Puts takes s t b volumes left from → left ≡ v ∷ vs → gap ≡ field from (v.start - from) b → takes t gap u
-      → IsImage v.laid image → takes u image w → Puts takes s w b volumes vs (v.start + (head_of v.laid).length)
+      → PutsVolumes takes s t b volumes left from → left ≡ v ∷ vs → gap ≡ field from (v.start - from) b → takes t gap u
+      → IsImage v.laid image → takes u image w → PutsVolumes takes s w b volumes vs (v.start + (head_of v.laid).length)
   laid_more {t} {u} {w} left from v vs gap image puts' now is put is_image put' =
-      let puts = subst (λ (xs : List LocatedVolume). Puts takes s t b volumes xs from) now puts' in
+      let puts = subst (λ (xs : List LocatedVolume). PutsVolumes takes s t b volumes xs from) now puts' in
       let p : ℕ = v.start in
       let n : ℕ = puts.laid.0.0 in
       let volume : VolumeAt b p n = puts.laid.0.1 in
@@ -113,22 +113,22 @@ module _ {S : Type 0} (takes : S → List ℕ → S → Type 0) (laws : WalkLaws
         taken = laws.joined (laws.joined puts.taken put) put';
         long = omega (arith, length-append (puts.bytes ++ gap) image, front_long, image_long);
         inside = within;
-        found = subst (λ (k : ℕ). FoundFrom (p + k) b (starts_of vs)) (one_length b p puts.found.0 n puts.found.1.3 volume) puts.found.2;
+        found = subst (λ (k : ℕ). FoundFrom (p + k) b (volume_starts vs)) (one_length b p puts.found.0 n puts.found.1.3 volume) puts.found.2;
         laid = puts.laid.1;
-        whole = λ rest after. simp append_assoc (puts.whole (gap ++ (image ++ rest)) (renews_more b (starts_of vs) puts.bytes gap image rest
+        whole = λ rest after. simp append_assoc (puts.whole (gap ++ (image ++ rest)) (renews_more b (volume_starts vs) puts.bytes gap image rest
             from p n low volume is puts.long gap_long front_long image_long to (simp append_assoc at after)));
       })
 
   -- after the bytes that follow the last volume are put, the renewed image is complete
-  pub laid_all : {t u : S} (left : List LocatedVolume) (from : ℕ) (rest : List ℕ) → IsLaidOut b volumes → Puts takes s t b volumes left from
+  pub laid_all : {t u : S} (left : List LocatedVolume) (from : ℕ) (rest : List ℕ) → IsLaidOut b volumes → PutsVolumes takes s t b volumes left from
       → left ≡ [] → rest ≡ drop from b → takes t rest u → (bytes : List ℕ) × NormalisesAll b bytes × takes s bytes u
   laid_all {t} left from rest (short, places, found, (same, all)) puts' none is put =
-      let puts = subst (λ (xs : List LocatedVolume). Puts takes s t b volumes xs from) none puts' in
+      let puts = subst (λ (xs : List LocatedVolume). PutsVolumes takes s t b volumes xs from) none puts' in
       let o : List ℕ = puts.bytes ++ rest in
-      let walk : RenewsFrom 0 b (starts_of volumes) o = puts.whole rest (drop_at puts.bytes rest from puts.long ∙ is) in
+      let walk : RenewsFrom 0 b (volume_starts volumes) o = puts.whole rest (drop_at puts.bytes rest from puts.long ∙ is) in
       let long : length o ≡ length b = omega (arith, length-append puts.bytes rest, ap length is, puts.long, length-drop from b, puts.inside) in (
         o,
-        (short, starts_of volumes, subst (Found b) (sym same) found, renewed_is b (starts_of volumes) o walk long),
+        (short, volume_starts volumes, subst (Found b) (sym same) found, renewed_is b (volume_starts volumes) o walk long),
         laws.joined puts.taken put,
       )
 
@@ -142,7 +142,7 @@ nothing_by : WalkLaws nothing
 nothing_by = record { none = λ s. tt; joined = λ p q. tt }
 
 -- the images of the volumes that are left can be put into this sink, so there is a renewed image
-all_put : (b : List ℕ) (volumes left : List LocatedVolume) (from : ℕ) → IsLaidOut b volumes → Puts nothing tt tt b volumes left from
+all_put : (b : List ℕ) (volumes left : List LocatedVolume) (from : ℕ) → IsLaidOut b volumes → PutsVolumes nothing tt tt b volumes left from
     → (bytes : List ℕ) × NormalisesAll b bytes
 all_put b volumes [] from laid puts =
     let whole = laid_all nothing nothing_by tt b volumes [] from (drop from b) laid puts refl refl tt in (whole.0, whole.1)

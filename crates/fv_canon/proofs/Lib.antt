@@ -3,6 +3,7 @@ pub mod BytesLaws
 pub mod CellLaws
 pub mod CurrentFileLaws
 pub mod DataBodyLaws
+pub mod DecidedImageLaws
 pub mod DigestStartLemmas
 pub mod Examples
 pub mod FileItemLaws
@@ -20,12 +21,14 @@ pub mod Laws
 pub mod LayoutLaws
 pub mod LayoutWalkLaws
 pub mod OneImageLaws
+pub mod OneRejectionLaws
 pub mod PadLaws
 pub mod PartLengthLaws
 pub mod PlacedBytesLaws
 pub mod PositionLaws
 pub mod ReadLaws
 pub mod RejectedInputLaws
+pub mod RenewedStaysLaws
 pub mod StoredTilingLaws
 pub mod StreamImageLaws
 pub mod SumRightLaws

@@ -5,7 +5,7 @@ use Rattle.std.proofs.Common.{◌≡◌, ℕ, List, [], append-nil, length, sym}
 use Rattle.fv_tree.specs.Words.{FileMeaning, File, SectionMeaning, Section, IsReadFile, IsReadSection, body_len, body_of, content_of, data_len_of}
 use Rattle.fv_tree.specs.Words.{volumes_in_body, volumes_in_content, volumes_in_section, Inside}
 use Rattle.fv_canon.specs.Words.{AreStarts, BeginsWithStarts, IsBodyImage, IsData, StartsOfEach}
-use Rattle.fv_canon.specs.inner.ImageOf.{body_image, data_of}
+use Rattle.fv_canon.specs.inner.ImageOf.{body_image, written_data}
 use Rattle.fv_canon.proofs.LaidFileLaws.{file_laid}
 use Rattle.fv_canon.proofs.LaidSectionLaws.{section_laid}
 use Rattle.fv_canon.proofs.VolumeListLaws.{laid_deeper}
@@ -17,13 +17,13 @@ begin_all vs starts laid = (starts, [], sym (append-nil starts), laid)
 -- the data that a walk writes for a file that was read and laid out are the file's data in the image, and have the
 -- length that the file's meaning states
 pub data_laid : (m : FileMeaning) (starts : List ℕ) → IsReadFile m → BeginsWithStarts (volumes_in_content (content_of m)) starts
-    → IsData (content_of m) (data_of (content_of m) starts) × (length (data_of (content_of m) starts) ≡ data_len_of m)
+    → IsData (content_of m) (written_data (content_of m) starts) × (length (written_data (content_of m) starts) ≡ data_len_of m)
 data_laid (File name kind attributes content) = file_laid (File name kind attributes content)
 
 -- so a file that was read and laid out has data of this length in the image
 pub data_long : (m : FileMeaning) (starts : List ℕ) → IsReadFile m → StartsOfEach AreStarts (volumes_in_content (content_of m)) starts
     → (bytes : List ℕ) × IsData (content_of m) bytes × (length bytes ≡ data_len_of m)
-data_long m starts read laid = let is = data_laid m starts read (begin_all _ starts laid) in (data_of (content_of m) starts, is.0, is.1)
+data_long m starts read laid = let is = data_laid m starts read (begin_all _ starts laid) in (written_data (content_of m) starts, is.0, is.1)
 
 -- the body that a walk writes for a section that was read and laid out is the section's body in the image, and has the
 -- length that the section's meaning states

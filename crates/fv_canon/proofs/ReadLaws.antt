@@ -5,7 +5,7 @@ use Rattle.fv_base.specs.declared.flash.FileSystem.{FileSystem}
 use Rattle.fv_base.specs.declared.flash.Polarity.{Polarity}
 use Rattle.fv_file.specs.Words.{CellForm, Valid, Tiles}
 use Rattle.fv_file.proofs.Laws.{FileRead as HeadRead, IsRead, tiles_read}
-use Rattle.fv_tree.specs.Words.{FileForm, files_in, replaced_by, current_in}
+use Rattle.fv_tree.specs.Words.{FileForm, files_in, superseded_by, current_in}
 
 abbrev pub FileIsAccepted : FileSystem → ℕ → FileForm → Type 0
 FileIsAccepted system limit f = HeadRead system limit f.head f.payload
@@ -24,4 +24,4 @@ body_read system p limit at cells b small most tiles = files_of_cells system lim
 
 pub current_read : (system : FileSystem) (limit : ℕ) (fs : List FileForm) → AllByRecursion (FileIsAccepted system limit) fs
     → AllByRecursion (FileIsAccepted system limit) (current_in fs)
-current_read system limit fs reads = all_filter (λ (f : FileForm). not (list_any (replaced_by f) fs)) (FileIsAccepted system limit) fs reads
+current_read system limit fs reads = all_filter (λ (f : FileForm). not (list_any (superseded_by f) fs)) (FileIsAccepted system limit) fs reads

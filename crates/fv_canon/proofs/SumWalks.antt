@@ -5,7 +5,7 @@ use Rattle.fv_base.proofs.Laws.{common_steps, sum_by-append, le_bytes}
 use Rattle.fv_base.specs.declared.flash.Polarity.{Polarity}
 use Rattle.fv_file.specs.Words.{is_summed, state_byte, fixed_checksum, file_sum_for, complement, header_with, header_bytes}
 use Rattle.fv_tree.specs.Words.{FileMeaning, File, attributes_of}
-use Rattle.fv_canon.specs.inner.ImageOf.{stored_file, data_of}
+use Rattle.fv_canon.specs.inner.ImageOf.{stored_file, written_data}
 use Rattle.fv_canon.specs.inner.SummingSinks.{AddsOrPuts}
 use Rattle.fv_canon.specs.Words.{stored_bytes, StoredFile}
 
@@ -48,7 +48,7 @@ stored_adds p f =
 summed_adds : (p : Polarity) (m : FileMeaning) (starts : List ℕ) (t u : ℕ) → is_summed (attributes_of m) ≡ true
     → u % 256 ≡ (t + sum (state_byte p ∷ [])) % 256 → u % 256 ≡ (t + sum (stored_bytes p (stored_file m starts))) % 256
 summed_adds p (File name kind attributes content) starts t u is e =
-    omega (arith, e, stored_adds p (stored_file (File name kind attributes content) starts) ∙ ap (λ (b : Bool). (if b then state_byte p else (fixed_checksum + state_byte p + sum (data_of content starts))) % 256) is)
+    omega (arith, e, stored_adds p (stored_file (File name kind attributes content) starts) ∙ ap (λ (b : Bool). (if b then state_byte p else (fixed_checksum + state_byte p + sum (written_data content starts))) % 256) is)
 
 -- so a sink that sums takes only the State of a file with the checksum attribute
 pub state_adds : {S : Type 0} (takes : S → List ℕ → S → Type 0) (sums : Bool) (s t : S) (m n : ℕ) (p : Polarity) (file : FileMeaning)

@@ -21,14 +21,14 @@ use Rattle.fv_head.proofs.Laws.{canonical_front, front_lies, length-canonical}
 use Rattle.fv_placement.specs.Words.{StartsFollow, IsFirstPlacement}
 use Rattle.fv_tree.specs.Words.{Meaning, Volume, FileMeanings, NoFiles, MoreFiles, FileMeaning, File, ContentMeaning, Plain, Sectioned, AreFilesOf}
 use Rattle.fv_tree.specs.Words.{files_list, files_of, head_of, content_len, StreamRelation, Pairwise, MeansContent, MeansFile, VolumeOver, Opens}
-use Rattle.fv_tree.specs.Words.{MeansSection, Stream, Denotes, FileForm, files_in, NoTwins, current_in, top_name, volumes_in_files, volumes_in_file}
+use Rattle.fv_tree.specs.Words.{MeansSection, Stream, Denotes, FileForm, files_in, NoStoredTwins, current_in, top_name, volumes_in_files, volumes_in_file}
 use Rattle.fv_tree.specs.Words.{volumes_in_content}
 use Rattle.fv_tree.proofs.Laws.{content_long, section_long, stream_long}
 use Rattle.fv_canon.specs.Words.{AreStored, IsStored, IsData, AreStarts, placement_item, ShowsPlaced, StoredFile, size_for, head_len_for, ext_pad}
 use Rattle.fv_canon.specs.Words.{placed_in_volume, used_size}
 use Rattle.fv_canon.specs.inner.ImageOf.{files_bytes}
 use Rattle.fv_canon.proofs.ImageParts.{stored_item}
-use Rattle.fv_canon.proofs.CurrentFileLaws.{names_in, names_of, NamesApart, current_apart, all_current, forms_unmarked, no_twins, TopLast, top_last}
+use Rattle.fv_canon.proofs.CurrentFileLaws.{stored_names, names_of, NamesApart, current_apart, all_current, forms_unmarked, no_twins, TopLast, top_last}
 use Rattle.fv_canon.proofs.CurrentFileLaws.{forms_top, form_names}
 use Rattle.fv_canon.proofs.CellLaws.{Storable, stored_head, length-pad_head}
 use Rattle.fv_canon.proofs.ReadLaws.{FileIsAccepted, body_read, current_read}
@@ -106,7 +106,7 @@ pub record FilesAgain (n : ℕ) (system : FileSystem) (files : FileMeanings) (fo
     (stored : List StoredFile) : Type 0 where
   pub storable : AllByRecursion (Storable system) stored
   pub items : map stored_item stored ≡ map placement_item (files_list files)
-  pub names : names_of stored ≡ names_in forms
+  pub names : names_of stored ≡ stored_names forms
   pub are : (p : Polarity) (total e : ℕ) (ss : List ℕ) → StartsFollow total e (map stored_item stored) ss
       → Pairwise (MeansFile (Stream n)) (forms_of p stored ss) (files_list files)
   pub meant : AllByRecursion (MeantBelow (suc n)) (volumes_in_files files)
@@ -245,14 +245,14 @@ volume_again n streams (Volume h files) b o small d (stored, starts, are, placed
     let a = known_of.again in
     let front = image_front h stored starts o k shows in
     let tiled = image_tiled h stored starts o k shows in
-    let apart : NamesApart (names_in (forms_of p stored starts)) =
+    let apart : NamesApart (stored_names (forms_of p stored starts)) =
     rw (form_names p h.length first stored starts k.follow ∙ a.names, d.current.files_are) (current_apart (files_in d.cells) d.current.no_twins) in
     let means : Denotes n o (Volume h files) =
     volume_of (Stream n) o (Volume h files) (extent_of h first) (forms_of p stored starts) front shows.length_is (record {
       cells = tiled.cells;
       tiles = tiled.tiles;
       current = record {
-        no_twins = subst NoTwins (sym tiled.files_are) (no_twins (forms_of p stored starts) apart);
+        no_twins = subst NoStoredTwins (sym tiled.files_are) (no_twins (forms_of p stored starts) apart);
         files_are = sym (all_current (forms_of p stored starts) (forms_unmarked p stored starts)) ∙ ap current_in (sym tiled.files_are);
         top = forms_top p h.length first stored starts (subst TopLast (sym a.names) (top_last d.extent.length d.files d.current.top)) k.follow;
       };

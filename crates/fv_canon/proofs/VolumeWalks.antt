@@ -18,7 +18,9 @@ use Rattle.fv_canon.specs.inner.FileWalks.{ArePlaced, used_by}
 use Rattle.fv_tree.proofs.Laws.{files_list_back}
 
 -- ---- the used size
--- the used size of a volume is the same for stored files and for their items
+
+-- the end of the last file is the same if it is found from the stored files (`used_size`) and if it is found from their
+-- placement items (`used_by`)
 used_stored : (end : ℕ) (fs : List StoredFile) (ss : List ℕ) → used_size end fs ss ≡ used_by end (map stored_item fs) ss
 used_stored end (f ∷ fs) (s ∷ ss) = used_stored (s + stored_len f) fs ss
 used_stored end fs ss = refl

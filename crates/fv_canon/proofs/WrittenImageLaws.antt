@@ -17,7 +17,7 @@ use Rattle.fv_tree.specs.Words.{SectionRelation, StreamRelation, VolumeRelation,
 use Rattle.fv_tree.specs.Words.{MeansSection, Stream, Denotes, FileForm, volumes_in, volumes_in_files, volumes_in_content, volumes_in_sections}
 use Rattle.fv_tree.specs.Words.{volumes_in_section}
 use Rattle.fv_canon.specs.Words.{IsImage, AreStored, IsData, AreFrames, IsFrame, BeginsWithStarts}
-use Rattle.fv_canon.specs.inner.ImageOf.{starts_in, image_of, stored_of, data_of, frames_of, frame_of}
+use Rattle.fv_canon.specs.inner.ImageOf.{starts_in, image_of, stored_of, written_data, written_frames, frame_of}
 use Rattle.fv_canon.proofs.VolumeListLaws.{begins_own, begins_split, begins_higher, each_weaker}
 use Rattle.fv_canon.proofs.PlacedBytesLaws.{volume_written}
 use Rattle.fv_canon.proofs.VolumeImageLaws.{known, files_read, streams_again}
@@ -30,7 +30,7 @@ SectionsMade is_section = (s : SectionMeaning) (f : FrameForm) (at : ℕ) (start
 
 abbrev pub StreamsMade : StreamRelation → Type 0
 StreamsMade is_stream = (ss : SectionMeanings) (tail : ℕ) (b starts : List ℕ) → IsBytes b → is_stream (sections_list ss) tail b
-    → BeginsWithStarts (volumes_in_sections ss) starts → AreFrames 0 ss (frames_of 0 ss starts)
+    → BeginsWithStarts (volumes_in_sections ss) starts → AreFrames 0 ss (written_frames 0 ss starts)
 
 abbrev pub VolumesMade : VolumeRelation → Type 0
 VolumesMade is_volume = (m : Meaning) (b starts : List ℕ) → IsBytes b → is_volume b m → BeginsWithStarts (volumes_in m) starts
@@ -40,7 +40,7 @@ VolumesMade is_volume = (m : Meaning) (b starts : List ℕ) → IsBytes b → is
 
 frames_made : (is_section : SectionRelation) → SectionsMade is_section → (at : ℕ) (ss : SectionMeanings) (fs : List FrameForm)
     (starts : List ℕ) → AllByRecursion (λ f. IsBytes f.body) fs → Pairwise is_section fs (sections_list ss)
-    → BeginsWithStarts (volumes_in_sections ss) starts → AreFrames at ss (frames_of at ss starts)
+    → BeginsWithStarts (volumes_in_sections ss) starts → AreFrames at ss (written_frames at ss starts)
 frames_made is_section made at NoSections fs starts small p begins = refl
 frames_made is_section made at (MoreSections s ss) [] starts small p begins = absurd p
 frames_made is_section made at (MoreSections (Section kind extended body) ss) (f ∷ fs) starts small p begins =
@@ -70,10 +70,10 @@ section_made is_stream is_volume streams volumes (Section kind extended (Nested 
 module _ (is_stream : StreamRelation) (streams : StreamsMade is_stream) where
   -- the data of a file are written as in the image
   pub data_made : (kind : ℕ) (content : ContentMeaning) (payload starts : List ℕ) → IsBytes payload → MeansContent is_stream kind payload content
-      → BeginsWithStarts (volumes_in_content content) starts → IsData content (data_of content starts)
+      → BeginsWithStarts (volumes_in_content content) starts → IsData content (written_data content starts)
   data_made kind (Plain b) payload starts small is begins = refl
   data_made kind (Sectioned sections tail) payload starts small (sectioned, is) begins =
-      (frames_of 0 sections starts, streams sections tail payload starts small is begins, refl)
+      (written_frames 0 sections starts, streams sections tail payload starts small is begins, refl)
 
   pub files_made : (system : FileSystem) (limit : ℕ) (files : FileMeanings) (forms : List FileForm) (starts : List ℕ)
       → AllByRecursion (FileIsAccepted system limit) forms → Pairwise (MeansFile is_stream) forms (files_list files)

@@ -60,12 +60,12 @@ IsLaid b v =
     (n : ℕ) × VolumeAt b v.start n × Accepted (field v.start n b) v.laid × ((image : List ℕ) × IsImage v.laid image)
 
 -- the offsets at which the volumes begin
-abbrev pub starts_of : List LocatedVolume → List ℕ
-starts_of volumes = map (λ v. v.start) volumes
+abbrev pub volume_starts : List LocatedVolume → List ℕ
+volume_starts volumes = map (λ v. v.start) volumes
 
 -- these are the volumes that begin at these offsets of b, in order, each with its meaning
 abbrev pub AreLaid : List ℕ → List ℕ → List LocatedVolume → Type 0
-AreLaid b offsets volumes = (starts_of volumes ≡ offsets) × AllByRecursion (IsLaid b) volumes
+AreLaid b offsets volumes = (volume_starts volumes ≡ offsets) × AllByRecursion (IsLaid b) volumes
 
 -- b is within the limit, and these are all volumes that are found in it, in order, each with its meaning
 abbrev pub IsLaidOut : List ℕ → List LocatedVolume → Type 0

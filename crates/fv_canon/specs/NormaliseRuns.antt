@@ -9,8 +9,8 @@ use Rattle.fv_canon.specs.InputRejections.{Rejects}
 
 -- either nothing was written, because the input is rejected, or because memory ran out and the input begins with a
 -- volume header; or the writer stopped before the end of the image
-abbrev pub InputStops : List ℕ → Option (List ℕ) → Option (List ℕ) → Fault → Type 0
-InputStops input held holds fault =
+abbrev pub NormalisingStops : List ℕ → Option (List ℕ) → Option (List ℕ) → Fault → Type 0
+NormalisingStops input held holds fault =
     (Keeps held holds × (MemoryRanOut input fault ⊎ Rejects input fault))
     ⊎ ((image : List ℕ) × NormalisesTo input image × WriteStops held holds image fault)
 
@@ -23,4 +23,4 @@ RunWrites unread left held holds =
 abbrev pub RunStops : Option (List ℕ) → Option (List ℕ) → Option (List ℕ) → Option (List ℕ) → Fault → Type 0
 RunStops unread left held holds fault =
     (Keeps held holds × ReadStops unread left fault)
-    ⊎ ((input : List ℕ) × ReadsWhole unread left input × InputStops input held holds fault)
+    ⊎ ((input : List ℕ) × ReadsWhole unread left input × NormalisingStops input held holds fault)

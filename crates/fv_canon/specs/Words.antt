@@ -15,8 +15,8 @@ pub use Rattle.fv_canon.specs.LayoutFaults.{AllFit, layout_fault, UnfitHere, Fir
 pub use Rattle.fv_canon.specs.ImageRules.{painted, InOrder, PadsRule, OneImage, OneMeaning}
 pub use Rattle.fv_canon.specs.LayoutForms.{AreLeast, StartsOfEach, AreAllStarts, BeginsWithStarts, AreAllLeastStarts, LayoutParts, IsLayout}
 pub use Rattle.fv_canon.specs.FlashImages.{IsNormalisedAt, NormalisesEach, NormalisesAll, HasImageAt, RejectedAt, FirstRejected}
-pub use Rattle.fv_canon.specs.FlashImages.{RejectsAll, IsLaid, starts_of, AreLaid, IsLaidOut}
+pub use Rattle.fv_canon.specs.FlashImages.{RejectsAll, IsLaid, volume_starts, AreLaid, IsLaidOut}
 pub use Rattle.fv_canon.specs.ImageChecks.{IsOtherThanImage, HasOutcome, IsChecked, AreChecked, ChecksImage, IsAboveLimit}
 pub use Rattle.fv_canon.specs.ImageChecks.{AreCanonical, CanonicalImagesStay}
-pub use Rattle.fv_canon.specs.NormaliseRuns.{InputStops, RunWrites, RunStops}
+pub use Rattle.fv_canon.specs.NormaliseRuns.{NormalisingStops, RunWrites, RunStops}
 pub use Rattle.fv_canon.specs.PartDigests.{VolumeDigest, FileDigest, BodyDigest, NodeDigest}

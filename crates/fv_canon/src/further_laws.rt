@@ -1,10 +1,12 @@
 //! Further laws of layouts and canonical images, over the definitions. None of these functions does
 //! anything: their contracts are the laws.
 
-ghost use Rattle.std.specs.Prelude.{◌↔◌, ◌≡◌, ◌⊎◌, List, ℕ};
+ghost use Rattle.std.specs.Prelude.{◌↔◌, ◌≡◌, ◌⊎◌, ◌≤◌, List, ℕ, length};
 ghost use Rattle.fv_base.specs.declared.fault.Fault.{Fault};
 ghost use Rattle.fv_tree.specs.Words.{Accepted, Meaning, NotRead};
-ghost use Rattle.fv_base.specs.Words.{IsBytes};
+ghost use Rattle.fv_base.specs.Words.{IsBytes, volume_limit};
+ghost use Rattle.fv_flash.specs.Words.{Found};
+ghost use Rattle.fv_canon.specs.FlashImages.{NormalisesAll, RejectsAll};
 ghost use Rattle.fv_canon.specs.Headline.{MeanSame, NormalisesTo};
 ghost use Rattle.fv_canon.specs.ImageRules.{OneImage, OneMeaning, InOrder, painted, PadsRule};
 ghost use Rattle.fv_canon.specs.ImageChecks.{CanonicalImagesStay};
@@ -92,4 +94,25 @@ pub fn every_input()
     ensures either { (input : List ℕ) → IsBytes input
         → ((image : List ℕ) × NormalisesTo input image) ⊎ ((f : Fault) × Rejects input f) }
     ensures never { (input image : List ℕ) (f : Fault) → NormalisesTo input image → Rejects input f → ⊥ }
+{}
+
+/// An input is rejected with at most one fault.
+pub fn one_rejection()
+    ensures { (input : List ℕ) (f g : Fault) → Rejects input f → Rejects input g → f ≡ g }
+{}
+
+/// A flash image within the limit has a renewed image, in which each volume is replaced by its
+/// canonical image, or it is rejected, and never both.
+pub fn every_image()
+    ensures either { (b : List ℕ) → IsBytes b → length b ≤ volume_limit
+        → ((renewed : List ℕ) × NormalisesAll b renewed) ⊎ ((f : Fault) × RejectsAll b f) }
+    ensures never { (b renewed : List ℕ) (f : Fault) → NormalisesAll b renewed → RejectsAll b f → ⊥ }
+{}
+
+/// A renewed image stays as it is if it is renewed again and the same volumes are found in it. Other
+/// volumes may be found in it: a header before a volume may be rejected because of bytes of the
+/// volume that are outside of its meaning, and the canonical image has other bytes there.
+pub fn renewed_images_stay()
+    ensures { (b renewed places : List ℕ)
+        → NormalisesAll b renewed → Found b places → Found renewed places → NormalisesAll renewed renewed }
 {}

@@ -7,7 +7,7 @@ ghost use Rattle.fv_section.specs.Words.{stream_of};
 ghost use Rattle.fv_tree.specs.Words.{files_from, sections_from, attributes_of, content_of, data_len_of, body_view};
 ghost use Rattle.fv_tree.specs.Words.{volumes_in, volumes_in_files, volumes_in_file, volumes_in_sections};
 ghost use Rattle.fv_tree.specs.Words.{volumes_in_body};
-ghost use Rattle.fv_canon.specs.inner.ImageOf.{image_of, stored_of, stored_file, data_of, frames_of, body_image};
+ghost use Rattle.fv_canon.specs.inner.ImageOf.{image_of, stored_of, stored_file, written_data, written_frames, body_image};
 ghost use Rattle.fv_canon.specs.inner.ImageOf.{starts_in, files_bytes};
 ghost use Rattle.fv_canon.specs.LayoutForms.{BeginsWithStarts};
 ghost use Rattle.fv_canon.specs.StoredFiles.{stored_bytes};
@@ -49,7 +49,7 @@ fn put_sections<'s, S: Sink>(
 ) -> &'s [u64]
     requires laid { BeginsWithStarts (volumes_in_sections (sections_from sections.0)) starts.now }
     ensures bytes { ImageTakes S.takes out.old
-        (stream_of (frames_of 0 (sections_from sections.entry.0) starts.now) sections.entry.1) out.new }
+        (stream_of (written_frames 0 (sections_from sections.entry.0) starts.now) sections.entry.1) out.new }
     ensures rest { result.now ≡ drop (starts_in (volumes_in_sections (sections_from sections.entry.0))) starts.now }
 {
     let mut gap = 0;
@@ -99,7 +99,7 @@ fn put_body<'s, S: Sink>(
 fn file_sum<S: Sink>(out: &mut SummingSink<'_, S>, file: &FileView<'_>, starts: &[u64]) -> u8
     requires laid { BeginsWithStarts (volumes_in_file file.now) starts.now }
     requires puts { is_summed (attributes_of file.now) ≡ true → sums out.now.mode ≡ false }
-    ensures value { result ≡ file_sum_for (attributes_of file.now) (data_of (content_of file.now) starts.now) }
+    ensures value { result ≡ file_sum_for (attributes_of file.now) (written_data (content_of file.now) starts.now) }
     ensures none { ImageTakes S.takes out.old [] out.new }
 {
     if !file.attributes().is_summed() {

@@ -6,7 +6,7 @@ ghost use Rattle.fv_tree.specs.Words.{Accepted};
 ghost use Rattle.fv_command.specs.RunInputs.{Gives, GivingStops};
 ghost use Rattle.fv_text.specs.Words.{Change, change, view_of};
 ghost use Rattle.fv_command.specs.PairRuns.{GivesVolume};
-ghost use Rattle.fv_command.specs.inner.RunSteps.{Compares, verdict_of};
+ghost use Rattle.fv_command.specs.inner.RunSteps.{ComparesInputs, verdict_of};
 
 use crate::inputs::{read_bytes, taken_at};
 use crate::status::Status;
@@ -69,7 +69,7 @@ fn compare_with<Second: Read, S: Sink>(
 ) -> Result<Status, (Side, Fault)>
     // This holds for every input that gives the first volume.
     ensures { (place : Option ℕ) (input : Change) → GivesVolume hex place input volume.now
-        → Compares S.takes hex place at input (change Second.remaining reader.old reader.new) out.old out.new result }
+        → ComparesInputs S.takes hex place at input (change Second.remaining reader.old reader.new) out.old out.new result }
 {
     let bytes = read_side(alloc, hex, Side::Second, reader)?;
     let other = accept_side(alloc, Side::Second, taken_at(&bytes, at))?;
@@ -97,7 +97,7 @@ pub fn put_compared<First: Read, Second: Read, S: Sink>(
     second: &mut Port<Second>,
     out: &mut S,
 ) -> Result<Status, (Side, Fault)>
-    ensures { Compares S.takes hex at other_at (change First.remaining first.old first.new)
+    ensures { ComparesInputs S.takes hex at other_at (change First.remaining first.old first.new)
         (change Second.remaining second.old second.new) out.old out.new result }
 {
     let bytes = read_side(alloc, hex, Side::First, first)?;

@@ -1,5 +1,5 @@
 -- A body is tiled by cells in one way, or there is a first place at which no cell begins. The steps:
--- 1. The cells that were read tile the body up to a place (`Upto`). With the cell that is read there, they tile the
+-- 1. The cells that were read tile the body up to a place (`TiledUpto`). With the cell that is read there, they tile the
 --    body up to the next place (`stands_here`, `one_on`).
 -- 2. The loop ends at the end of the body (`whole_kept`), before an erased rest (`free_kept`), or at the first fault
 --    (`first_here`). If there is no fault, cells tile all of the body (`all_kept`).
@@ -29,16 +29,16 @@ use Rattle.fv_file.proofs.TilingLemmas.{no_rest, none_behind, one_tiling, cut, o
 
 module _ (s : FileSystem) (p : Polarity) (first : ℕ) (body : List ℕ) where
   -- cells that are not free tile the body up to a place
-  pub record Upto (cs : List CellForm) (at : ℕ) : Type 0 where
+  pub record TiledUpto (cs : List CellForm) (at : ℕ) : Type 0 where
     pub tiled : Tiles s p first cs (take at body)
     pub none_free : NoneFree cs
     pub multiple : at % 8 ≡ 0
     pub inside : at ≤ length body
 
-  pub upto_begins : Upto [] 0
+  pub upto_begins : TiledUpto [] 0
   upto_begins = record { tiled = refl; none_free = tt; multiple = refl; inside = omega arith }
 
-  module _ (cs : List CellForm) (at : ℕ) (before : Upto cs at) where
+  module _ (cs : List CellForm) (at : ℕ) (before : TiledUpto cs at) where
     -- the cell that is read at the place begins there
     pub stands_here : (c : CellForm) → length body % 8 ≡ 0 → cell_verdict s p (first + at) (drop at body) ≡ Ok c
         → CellStandsAt s p (first + at) c (drop at body)
@@ -47,7 +47,7 @@ module _ (s : FileSystem) (p : Polarity) (first : ℕ) (body : List ℕ) where
 
     -- with the cell that begins at the place, the cells tile the body up to the end of this cell
     pub one_on : (c : CellForm) (len : ℕ) → CellStandsAt s p (first + at) c (drop at body) → len ≡ cell_len c
-        → Upto (cs ++ c ∷ []) (at + len)
+        → TiledUpto (cs ++ c ∷ []) (at + len)
     one_on c len stands l = grind (arith, common_steps, length-take-le, one_more, take-add, none_more, length-drop)
 
     -- at the end of the body, the cells tile all of it
@@ -154,27 +154,27 @@ module _ (s : FileSystem) (p : Polarity) (first : ℕ) (body : List ℕ) where
 
 module _ (s : FileSystem) (p : Polarity) (first : ℕ) (body : List ℕ) where
   -- cells tile the body, or the body has a first fault
-  abbrev pub Decided : Type 0
-  Decided = ((cs : List CellForm) × Tiles s p first cs body) ⊎ ((f : Fault) × IsFirstCellFault s p first body f)
+  abbrev pub TilingDecided : Type 0
+  TilingDecided = ((cs : List CellForm) × Tiles s p first cs body) ⊎ ((f : Fault) × IsFirstCellFault s p first body f)
 
   module _ (in_eights : length body % 8 ≡ 0) where
     -- from cells that tile the body up to a place, the walk finds a tiling or a first fault in n steps
-    abbrev GoesOn : ℕ → Type 0
-    GoesOn n = (cs : List CellForm) (at : ℕ) → Upto s p first body cs at → length body ≤ at + n → Decided
+    abbrev TilingGoesOn : ℕ → Type 0
+    TilingGoesOn n = (cs : List CellForm) (at : ℕ) → TiledUpto s p first body cs at → length body ≤ at + n → TilingDecided
 
-    walk : (n : ℕ) → GoesOn n
+    walk : (n : ℕ) → TilingGoesOn n
     walk zero cs at k more = inl (cs, whole_kept s p first body cs at k (omega (arith, more)))
     walk (suc n) cs at k more = by_rest (walk n) (all_are (erased_byte p) (drop at body)) refl where
-      by_verdict : GoesOn n → (at < length body) × (AllAre (erased_byte p) (drop at body) → ⊥) → (r : Result CellForm Fault)
-          → cell_verdict s p (first + at) (drop at body) ≡ r → Decided
+      by_verdict : TilingGoesOn n → (at < length body) × (AllAre (erased_byte p) (drop at body) → ⊥) → (r : Result CellForm Fault)
+          → cell_verdict s p (first + at) (drop at body) ≡ r → TilingDecided
       by_verdict on used (Ok c) is =
           let stands = stands_here s p first body cs at k c in_eights is in
           on (cs ++ c ∷ []) (at + cell_len c) (one_on s p first body cs at k c (cell_len c) stands refl) (omega (arith, more, stands.some))
       by_verdict on used (Err f) is = inr (f, first_here s p first body cs at k f used is)
 
-      by_rest : GoesOn n → (t : Bool) → all_are (erased_byte p) (drop at body) ≡ t → Decided
+      by_rest : TilingGoesOn n → (t : Bool) → all_are (erased_byte p) (drop at body) ≡ t → TilingDecided
       by_rest on true clean = inl (all_kept s p first body cs at k (rest_free (erased_byte p) (drop at body) body at refl clean))
       by_rest on false used = by_verdict on (rest_used (erased_byte p) (drop at body) body at refl used) _ refl
 
-    pub body_decided : Decided
+    pub body_decided : TilingDecided
     body_decided = walk (length body) [] 0 (upto_begins s p first body) (omega arith)

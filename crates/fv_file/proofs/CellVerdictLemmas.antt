@@ -4,7 +4,7 @@
 -- does not hold, no cell begins there.
 use Rattle.std.proofs.Common.{◌≡◌, ◌≤◌, ℕ, ◌%◌, [], ◌++◌, ◌==◌, ◌≢◌, ◌⊎◌, leb-true}
 use Rattle.fv_base.proofs.Laws.{inl, inr, List, length, refl, sym, ap, ◌∙◌, subst, arith, Bool, true, false, append-nil, nat_lt, slice_index, Option}
-use Rattle.fv_base.proofs.Laws.{None, Some, Ok, Err, le-leb, ltb-true, ltb-false, eqb-true, eq-eqb, IsFirstFault, Which, Fails, AllAre, erased_byte}
+use Rattle.fv_base.proofs.Laws.{None, Some, Ok, Err, le-leb, ltb-true, ltb-false, eqb-true, eq-eqb, IsFirstFault, Which, Fails, AllAre, AllHold, erased_byte}
 use Rattle.fv_base.proofs.Laws.{all_hold, and_split, first_is, none_fails, not_at_most, verdict_err, verdict_ok, common_steps}
 use Rattle.fv_base.specs.inner.Verdicts.{first_fault, verdict_by}
 use Rattle.fv_base.specs.declared.fault.Fault.{Fault}
@@ -67,6 +67,10 @@ verdict_stands s p at r c in_eights is =
     let v = verdict_ok (first_fault (cell_checks s p at r)) (cell_in (state_of p (slice_index r 23)) at r) c (sym (verdict_is s p at r) ∙ is) in
     subst (λ (d : CellForm). CellStandsAt s p at d r) v.1 (cell_stands s p at r in_eights v.0)
 
+pub verdict_holds : (s : FileSystem) (p : Polarity) (at : ℕ) (r : List ℕ) (c : CellForm) → cell_verdict s p at r ≡ Ok c
+    → AllHold (cell_checks s p at r)
+verdict_holds s p at r c is = all_hold (cell_checks s p at r) (verdict_ok _ _ c (sym (verdict_is s p at r) ∙ is)).0
+
 pub verdict_fails : (s : FileSystem) (p : Polarity) (at : ℕ) (r : List ℕ) (f : Fault) → cell_verdict s p at r ≡ Err f
     → first_fault (cell_checks s p at r) ≡ Some f
 verdict_fails s p at r f is = verdict_err (first_fault (cell_checks s p at r)) _ f (sym (verdict_is s p at r) ∙ is)
@@ -88,18 +92,18 @@ pub read_used : (s : FileSystem) (p : Polarity) (at : ℕ) (r : List ℕ) (c : C
 read_used s p at r c is = grind (arith, common_steps, and_split, all_hold, leb-true, no_bits, eq-eqb)
 
 -- a cell that begins the bytes is read, or it is free, and all bytes are erased
-abbrev Begins : FileSystem → Polarity → ℕ → CellForm → List ℕ → Type 0
-Begins s p at c r = CellIsRead s p at c r ⊎ (AllAre (erased_byte p) r × (c ≡ Free at (length r)))
+abbrev CellBegins : FileSystem → Polarity → ℕ → CellForm → List ℕ → Type 0
+CellBegins s p at c r = CellIsRead s p at c r ⊎ (AllAre (erased_byte p) r × (c ≡ Free at (length r)))
 
 begins : (s : FileSystem) (p : Polarity) (at : ℕ) (c : CellForm) (r u w : List ℕ) → IsCell s p c u → offset_of c ≡ at → r ≡ u ++ w
-    → (is_free c ≡ true → w ≡ []) → Begins s p at c r
+    → (is_free c ≡ true → w ≡ []) → CellBegins s p at c r
 begins s p at c r u w is o e last = go (is_free c) refl where
-  go : (f : Bool) → is_free c ≡ f → Begins s p at c r
+  go : (f : Bool) → is_free c ≡ f → CellBegins s p at c r
   go false f = inl (rw (← o, e) (cell_reads s p c u w is f))
   go true f = let free = free_all s p c u is f in inr (rw (e, last f, append-nil) (free.1, rw (← o) free.0))
 
 -- at most one cell begins the bytes
-one_begun : (s : FileSystem) (p : Polarity) (at : ℕ) (c d : CellForm) (r : List ℕ) → Begins s p at c r → Begins s p at d r → c ≡ d
+one_begun : (s : FileSystem) (p : Polarity) (at : ℕ) (c d : CellForm) (r : List ℕ) → CellBegins s p at c r → CellBegins s p at d r → c ≡ d
 one_begun s p at c d r (inl a) (inl b) = sym a.read ∙ b.read
 one_begun s p at c d r (inr a) (inr b) = a.1 ∙ sym b.1
 one_begun s p at c d r (inl a) (inr b) = let used = read_used s p at r c a in absurd (used.1 (all_at _ r 23 b.0 (omega (arith, used.0))))

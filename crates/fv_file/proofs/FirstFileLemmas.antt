@@ -12,7 +12,7 @@ use Rattle.fv_file.specs.Words.{file_size_at, payload_at, file_checks, is_valid_
 use Rattle.fv_file.specs.Words.{state_of, is_alive}
 use Rattle.fv_file.specs.declared.head.FileHead.{FileHead}
 use Rattle.fv_file.specs.declared.state.FileState.{FileState}
-use Rattle.fv_file.specs.inner.CellVerdicts.{file_verdict, head_of, verify_verdict}
+use Rattle.fv_file.specs.inner.CellVerdicts.{file_verdict, shown_head, verify_verdict}
 use Rattle.fv_file.proofs.FileLemmas.{FileAt, file_at, file_reads}
 
 -- for bytes that show the state of a valid file, the verdict is the verdict on a file
@@ -41,9 +41,9 @@ begins_at s p st b alive f = record {
 
 -- if the checks hold, the bytes begin with the file whose header is at the start
 begins_found : (s : FileSystem) (p : Polarity) (b : List ℕ) → AllHold (verify_checks s p b)
-    → BeginsFile s p (head_of (state_of p (slice_index b 23)) b) b
+    → BeginsFile s p (shown_head (state_of p (slice_index b 23)) b) b
 begins_found s p b (long, (standing, checks)) = go (state_of p (slice_index b 23)) refl standing where
-  go : (o : Option FileState) → state_of p (slice_index b 23) ≡ o → is_valid_state o ≡ true → BeginsFile s p (head_of o b) b
+  go : (o : Option FileState) → state_of p (slice_index b 23) ≡ o → is_valid_state o ≡ true → BeginsFile s p (shown_head o b) b
   go None e alive = cc
   go (Some st) e alive = begins_at s p st b alive (file_at s p st 0 b (leb-true _ _ long) e
       (subst (λ (t : Bool). AllHold (file_checks s t 0 b)) (sym alive) checks))
@@ -62,7 +62,7 @@ begins_only s p b head begins =
 pub ok_found : (s : FileSystem) (p : Polarity) (b : List ℕ) (r : Result FileHead Fault) → r ≡ verify_verdict s p b
     → IfOk r (λ head. BeginsFile s p head b)
 ok_found s p b (Ok head) is =
-    let v = verdict_ok (first_fault (verify_checks s p b)) (head_of (state_of p (slice_index b 23)) b) head (sym is) in
+    let v = verdict_ok (first_fault (verify_checks s p b)) (shown_head (state_of p (slice_index b 23)) b) head (sym is) in
     subst (λ (h : FileHead). BeginsFile s p h b) v.1 (begins_found s p b (all_hold (verify_checks s p b) v.0))
 ok_found s p b (Err f) is = tt
 

@@ -14,15 +14,15 @@ use Rattle.fv_file.proofs.BodyLemmas.{all_kept}
 use Rattle.fv_file.proofs.MarkedFileLemmas.{behind_mark, drop-unmarked}
 
 -- the marks up to a place are removed in `less`, which has the same bytes as the body from there on
-pub record Walked (s : FileSystem) (p : Polarity) (first : ℕ) (body : List ℕ) (at : ℕ) : Type 0 where
+pub record UnmarkedUpto (s : FileSystem) (p : Polarity) (first : ℕ) (body : List ℕ) (at : ℕ) : Type 0 where
   pub less : List ℕ
   pub so_far : Unmarked s p first body less at
   pub same : drop at less ≡ drop at body
 
-pub walk_begins : (s : FileSystem) (p : Polarity) (first : ℕ) (body : List ℕ) → Walked s p first body 0
+pub walk_begins : (s : FileSystem) (p : Polarity) (first : ℕ) (body : List ℕ) → UnmarkedUpto s p first body 0
 walk_begins s p first body = record { less = body; so_far = unmarked_begins s p first body; same = refl }
 
-module _ (s : FileSystem) (p : Polarity) (first : ℕ) (body : List ℕ) (at : ℕ) (k : Walked s p first body at) where
+module _ (s : FileSystem) (p : Polarity) (first : ℕ) (body : List ℕ) (at : ℕ) (k : UnmarkedUpto s p first body at) where
   -- the walk ends at the end of the body, or before an erased rest, and cells tile the body without its marks
   pub walk_ends : AllAre (erased_byte p) (drop at body) → Accepts s p first body
   walk_ends clean = (k.so_far.places, k.less, k.so_far.marks, all_kept s p first k.less k.so_far.cells at k.so_far.upto (rw k.same clean))
@@ -48,7 +48,7 @@ module _ (s : FileSystem) (p : Polarity) (first : ℕ) (body : List ℕ) (at : �
 
     -- after the cell at the place, the marks up to the next place are removed
     pub walk_on : (len : ℕ) (c : CellForm) → length body % 8 ≡ 0 → cell_verdict s p (first + at) b ≡ Ok c → len ≡ cell_len c
-        → (b ≡ drop at body) ⊎ (19 < len) → Walked s p first body (at + len) × (0 < len) × (at + len ≤ length body)
+        → (b ≡ drop at body) ⊎ (19 < len) → UnmarkedUpto s p first body (at + len) × (0 < len) × (at + len ≤ length body)
     walk_on len c in_eights is l past =
         let stands = stands_unmarked s p first body new at c in_eights so_far (ap (cell_verdict s p (first + at)) (stepped step).2 ∙ is) in
         let on = one_further s p first body new at len c so_far stands l in (

@@ -1,6 +1,7 @@
 -- A fixed file without its mark is a cell, or its fault is FileSum. The steps:
 -- 1. If the fault of a cell is Fixed, the cell is a file that is valid by its state, the header of the file is right,
---    and the file is fixed (`fixed_there`).
+--    and the file is fixed (`fixed_there`). State, Type and Attributes of this header show the mark (`there_held`).
+--    The header of a cell that is read does not show a mark that has to be taken away (`cell_moves`).
 -- 2. Without the mark, all bytes but two are the same (`other`, `behind_mark`). One of the two bytes is more by 4, and
 --    the other is less by 4, so the sum of the header is the same modulo 256 (`front_sum`, `middle_sum`, `around_sum`).
 -- 3. So the header is right as before (`right_still`), and the data are checked as before (`skipped_same`,
@@ -11,7 +12,7 @@ use Rattle.std.proofs.Common.{◌≡◌, ◌≤◌, ◌<◌, ℕ, ◌+◌, ◌-�
 use Rattle.fv_base.proofs.Laws.{List, length, take, drop, refl, sym, ap, ◌∙◌, arith, Bool, true, false, not, slice_index, slice_set, Some, Ok, Err}
 use Rattle.fv_base.proofs.Laws.{ltb-true, get_or-drop, get_or-set_same, get_or-set_other, drop-set-lt, length-set, length-drop, get_or-take}
 use Rattle.fv_base.proofs.Laws.{length-take-le, nat_le, Option, None, eq-eqb, nat_tests, take-set-le, drop-take, field, le, outer_fault, up_to_8}
-use Rattle.fv_base.proofs.Laws.{field-take, take-take_le, common_steps, AllAre, erased_byte, and_split, or_parts}
+use Rattle.fv_base.proofs.Laws.{field-take, take-take_le, common_steps, AllAre, AllHold, erased_byte, and_split, or_parts}
 use Rattle.std.proofs.lemmas.List.{drop-set-add}
 use Rattle.std.proofs.lemmas.List.Sums.{sum_by-set}
 use Rattle.std.proofs.Math.Seq.{take-set-lt}
@@ -21,16 +22,16 @@ use Rattle.fv_base.specs.declared.flash.FileSystem.{FileSystem}
 use Rattle.fv_base.specs.declared.flash.Polarity.{Polarity}
 use Rattle.fv_file.specs.Words.{CellForm, cell_len, attributes_at, state_at, is_fixed, is_large, is_summed, is_alive, file_header_len, file_size_in}
 use Rattle.fv_file.specs.Words.{file_header_len_at, file_size_at, payload_at, header_sum_of, allows_large, state_of, has_file_sum, skips_data}
-use Rattle.fv_file.specs.Words.{unmarked, pad_kind, file_checks, state_checks, bits_of}
+use Rattle.fv_file.specs.Words.{unmarked, pad_kind, file_checks, state_checks, bits_of, is_valid_state}
 use Rattle.fv_file.specs.declared.state.FileState.{FileState}
-use Rattle.fv_file.specs.inner.CellVerdicts.{file_verdict, cell_verdict, cell_with, sort_of, sort_checks, stray, StateSort}
+use Rattle.fv_file.specs.inner.CellVerdicts.{is_held, file_verdict, cell_verdict, cell_with, sort_of, sort_checks, stray, StateSort}
 use Rattle.fv_file.proofs.FileVerdictLemmas.{IsHeaderRight, data_right, data_wrong, sizes, MarkedFile, held, marked_file}
 use Rattle.fv_base.specs.declared.fault.FaultKind.TheVariants as kinds
 use Rattle.fv_file.specs.inner.CellVerdicts as sorts
 use Rattle.fv_base.specs.inner.Verdicts.{first_fault}
 use Rattle.std.proofs.lemmas.Bool.{not-false}
 use Rattle.fv_file.proofs.SortLemmas.{sorted}
-use Rattle.fv_file.proofs.CellVerdictLemmas.{verdict_fails, no_bits}
+use Rattle.fv_file.proofs.CellVerdictLemmas.{verdict_fails, verdict_holds, no_bits}
 use Rattle.fv_file.proofs.ErasedByteLemmas.{all_at}
 
 -- ---- 1. the fault Fixed
@@ -65,6 +66,16 @@ fixed_there s p at r f is kind =
         let file = marked_file s st at r f (in_sort (sort_of st) (is_alive st) (rw (sorted st).checks at v)) kind in
         let alive : is_alive st ≡ true = not-false _ (or_parts _ _ file.checked).0 in
         record { long = long; used = used; state = st; shown = shown; sort = (sorted st).valid alive; file = file }
+
+-- such a file shows that it is held, and no cell that is read does
+pub there_held : (s : FileSystem) (p : Polarity) (at : ℕ) (r : List ℕ) (f : Fault) → FixedThere s p at r f → is_held p r ≡ true
+there_held s p at r f there = rw (there.shown, there.file.checked) there.file.fixed
+
+pub cell_moves : (s : FileSystem) (p : Polarity) (at : ℕ) (r : List ℕ) (c : CellForm) → cell_verdict s p at r ≡ Ok c → is_held p r ≡ false
+cell_moves s p at r c is = moved (state_of p (state_at r)) (verdict_holds s p at r c is).1 where
+  moved : (o : Option FileState) → AllHold (state_checks o s at r)
+      → (not (skips_data (is_valid_state o) r) && is_fixed (attributes_at r)) ≡ false
+  moved o holds = grind (arith, common_steps)
 
 -- the attributes of a fixed file are at least 4
 pub fixed_least : (a : ℕ) → is_fixed a ≡ true → 4 ≤ a

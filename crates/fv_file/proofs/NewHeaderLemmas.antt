@@ -22,7 +22,7 @@ use Rattle.fv_base.specs.declared.guid.Guid.{Guid}
 use Rattle.fv_base.specs.declared.flash.FileSystem.TheVariants.{Ffs3}
 use Rattle.fv_base.specs.declared.flash.Polarity.TheVariants.{Ones, Zeros}
 use Rattle.fv_file.specs.Words.{IsFilled, attribute_bits, is_large, file_header_len, head_in, header_sum_of, pad_kind, file_size_in, IsFileHeader}
-use Rattle.fv_file.specs.Words.{StateOf, is_alive, state_of, IsNewHeader, IsHeadOfFile, IsHeadOfPad, fields_of, file_fields, pad_fields, complement}
+use Rattle.fv_file.specs.Words.{StateOf, is_alive, state_of, IsNewHeader, IsHeadOfFile, IsHeadOfPad, header_fields, file_fields, pad_fields, complement}
 use Rattle.fv_file.specs.Words.{file_head_of, header_bytes, header_with, needs_large, pad_head_of, state_byte, with_large}
 use Rattle.fv_file.specs.declared.head.FileHead.{FileHead}
 use Rattle.fv_file.specs.declared.attributes.FileAttributes.{FileAttributes}
@@ -70,7 +70,7 @@ rest_of h large state =
 
 -- the fields that a header of this form has when it is read
 abbrev formed : FileHead → Bool → FileHead
-formed h large = fields_of (bytes_of h.name) h.kind (attribute_bits h.attributes) h.size large h.header_sum h.file_sum
+formed h large = header_fields (bytes_of h.name) h.kind (attribute_bits h.attributes) h.size large h.header_sum h.file_sum
 
 header_parts : (h : FileHead) (large : Bool) (state : ℕ) → spelled h large state ≡ bytes_of h.name ++ rest_of h large state
 header_parts h true state = simp append_assoc

@@ -3,20 +3,34 @@
 --    fault after the mark at a place was removed is the first fault of the body (`stopped`).
 -- 2. There is one way to remove all marks (`one_unmarked`).
 -- 3. If all marks can be removed, a cell begins at each place after the mark there was removed (`unmarked_cell`).
-use Rattle.std.proofs.Common.{◌≡◌, ◌≤◌, ◌<◌, ℕ, ◌+◌, ◌-◌, ◌%◌, [], ◌∷◌, ◌++◌, ◌≢◌, ◌⊎◌}
+use Rattle.std.proofs.Common.{◌≡◌, ◌≤◌, ◌<◌, ℕ, ◌+◌, ◌-◌, ◌%◌, [], ◌∷◌, ◌++◌, ◌≢◌, ◌⊎◌, if◌then◌else◌}
 use Rattle.fv_base.proofs.Laws.{List, length, take, drop, refl, sym, ap, ◌∙◌, arith, false, inl, inr, slice_index, slice_set, Ok, Err, Result}
-use Rattle.fv_base.proofs.Laws.{ltb-false, length-take-le, take-append-drop, take-set-le, First, outer_fault, common_steps, AllAre, erased_byte}
+use Rattle.fv_base.proofs.Laws.{ltb-false, length-take-le, take-append-drop, take-set-le, First, first_only, outer_fault, common_steps, AllAre, erased_byte}
 use Rattle.fv_base.specs.declared.fault.Fault.{Fault}
 use Rattle.fv_base.specs.declared.flash.FileSystem.{FileSystem}
 use Rattle.fv_base.specs.declared.flash.Polarity.{Polarity}
 use Rattle.fv_file.specs.Words.{CellForm, is_free, IsCell, Tiles, cell_len, IsFirstCellFault, unmarked, Unmarks}
-use Rattle.fv_file.specs.inner.CellVerdicts.{cell_verdict}
-use Rattle.fv_file.proofs.MarkedFileLemmas.{fixed_there, length-unmarked, drop-unmarked, used_without}
-use Rattle.fv_file.proofs.BodyLemmas.{Upto, upto_begins, stands_here, one_on, first_here, none_after, one_cell_fault}
+use Rattle.fv_file.specs.inner.CellVerdicts.{cell_verdict, is_held}
+use Rattle.fv_file.proofs.MarkedFileLemmas.{fixed_there, there_held, cell_moves, not_fixed_again, length-unmarked, drop-unmarked}
+use Rattle.fv_file.proofs.MarkedFileLemmas.{used_without}
+use Rattle.fv_file.proofs.BodyLemmas.{TiledUpto, upto_begins, stands_here, one_on, first_here, none_after, one_cell_fault}
 use Rattle.fv_file.proofs.CellFoundLemmas.{CellStandsAt}
 use Rattle.fv_base.specs.declared.fault.FaultKind.TheVariants as kinds
 
 -- ---- 1. one after another
+
+-- if a cell is read, there are at least the 24 bytes of a header
+pub cell_long : (s : FileSystem) (p : Polarity) (at : ℕ) (r : List ℕ) (c : CellForm) → cell_verdict s p at r ≡ Ok c → 24 ≤ length r
+cell_long s p at r c is = grind (arith, common_steps, ltb-false)
+
+-- a fault is Fixed, or it is not
+fixed_known : (f : Fault) → (f.kind ≡ kinds.Fixed) ⊎ (f.kind ≢ kinds.Fixed)
+fixed_known f = grind (arith, common_steps)
+
+-- a verdict that is no fault is a cell
+ok_there : (x : Result CellForm Fault) → ((f : Fault) → x ≡ Err f → ⊥) → (c : CellForm) × (x ≡ Ok c)
+ok_there (Ok c) none = (c, refl)
+ok_there (Err f) none = absurd (none f refl)
 
 -- removing the mark at a place does not change the bytes before this place
 front_unmarked : (p : ℕ) (b : List ℕ) → take p (unmarked p b) ≡ take p b
@@ -36,7 +50,7 @@ module _ (s : FileSystem) (p : Polarity) (first : ℕ) where
     pub marks : Unmarks s p first places old body
     pub same_length : length body ≡ length old
     pub cells : List CellForm
-    pub upto : Upto s p first body cells at
+    pub upto : TiledUpto s p first body cells at
 
   -- at the start, no mark is removed
   pub unmarked_begins : (body : List ℕ) → Unmarked body body 0
@@ -116,21 +130,34 @@ module _ (s : FileSystem) (p : Polarity) (first : ℕ) where
   abbrev pub Accepts : List ℕ → Type 0
   Accepts b = (places : List ℕ) × (o : List ℕ) × Unmarks s p first places b o × ((cells : List CellForm) × Tiles s p first cells o)
 
-  -- a cell begins at each place after the mark there was removed
-  pub unmarked_cell : (old body new : List ℕ) (at : ℕ) → Accepts old → Unmarked old body at → Used body at → MarkStep body new at
-      → ((f : Fault) → cell_verdict s p (first + at) (drop at new) ≡ Err f → f.kind ≢ kinds.Fixed)
-      → (c : CellForm) × (cell_verdict s p (first + at) (drop at new) ≡ Ok c)
-  unmarked_cell old body new at (places, o, marks, (cells, tiles)) k used step plain = go (cell_verdict s p (first + at) (drop at new)) refl
-    where
-      go : (x : Result CellForm Fault) → cell_verdict s p (first + at) (drop at new) ≡ x
-          → (c : CellForm) × (cell_verdict s p (first + at) (drop at new) ≡ Ok c)
-      go (Ok c) is = (c, is)
-      go (Err f) is =
-          let less = one_less old body new at k used step in
-          let here = stopped old body new at f k used step is in
-          let same : o ≡ new =
-          one_unmarked less.places places old new o less.marks (fault_unfixed new f here (plain f is)) marks (tiled_unfixed o cells tiles) in
-          absurd (none_after First s p first new f cells here (rw same at tiles))
+  -- a fault at a place is Fixed, both before the mark there was removed and after that
+  no_other : (old body new : List ℕ) (at : ℕ) → Accepts old → Unmarked old body at → Used body at → MarkStep body new at
+      → (f : Fault) → cell_verdict s p (first + at) (drop at new) ≡ Err f → f.kind ≢ kinds.Fixed → ⊥
+  no_other old body new at (places, o, marks, (cells, tiles)) k used step f is other =
+      let less = one_less old body new at k used step in
+      let here = stopped old body new at f k used step is in
+      let same : o ≡ new =
+      one_unmarked less.places places old new o less.marks (fault_unfixed new f here other) marks (tiled_unfixed o cells tiles) in
+      none_after First s p first new f cells here (rw same at tiles)
+
+  -- a header begins at each place, and after the mark of a held file there was removed, a cell begins there
+  pub unmarked_cell : (old body new : List ℕ) (at : ℕ) → Accepts old → Unmarked old body at → Used body at
+      → new ≡ (if is_held p (drop at body) then unmarked at body else body)
+      → (24 ≤ length (drop at body)) × Unmarked old new at × ((c : CellForm) × (cell_verdict s p (first + at) (drop at new) ≡ Ok c))
+  unmarked_cell old body new at ok k used step = go (cell_verdict s p (first + at) (drop at body)) refl where
+    go : (x : Result CellForm Fault) → cell_verdict s p (first + at) (drop at body) ≡ x
+        → (24 ≤ length (drop at body)) × Unmarked old new at × ((c : CellForm) × (cell_verdict s p (first + at) (drop at new) ≡ Ok c))
+    go (Ok c) is =
+        let same : new ≡ body = rw (cell_moves s p _ _ c is) at step in (cell_long s p _ _ c is, rw same k, (c, rw same is))
+    go (Err f) is =
+        let there = fixed_there s p _ _ f is (first_only (fixed_known f) (no_other old body body at ok k used (inl refl) f is)) in
+        let less : new ≡ unmarked at body = rw (there_held s p _ _ f there) at step in
+        let mark : MarkStep body new at = inr (is ∙ ap Err there.file.fault, less) in (
+          there.long,
+          one_less old body new at k used mark,
+          ok_there _ (λ g fails.
+              no_other old body new at ok k used mark g fails (not_fixed_again s p _ _ f there g (rw (less, drop-unmarked) at fails))),
+        )
 
   -- after the cell at the place, the marks up to the next place are removed
   pub one_further : (old body : List ℕ) (at len : ℕ) (c : CellForm) → Unmarked old body at → CellStandsAt s p (first + at) c (drop at body)
@@ -148,11 +175,7 @@ module _ (s : FileSystem) (p : Polarity) (first : ℕ) where
   stands_unmarked old body at c in_eights k is =
       stands_here s p first body k.cells at k.upto c (ap (λ (i : ℕ). i % 8) k.same_length ∙ in_eights) is
 
--- if a cell is read, there are at least the 24 bytes of a header
-pub cell_long : (s : FileSystem) (p : Polarity) (at : ℕ) (r : List ℕ) (c : CellForm) → cell_verdict s p at r ≡ Ok c → 24 ≤ length r
-cell_long s p at r c is = grind (arith, common_steps, ltb-false)
-
--- if n is the length of each cell that begins the bytes and is not free, n is the length of the cell that begins there
+-- c is a cell at the start of the bytes r, and is not free. If each such cell has the length n, c has the length n
 pub stride_len : (s : FileSystem) (p : Polarity) (at n : ℕ) (r : List ℕ) (c : CellForm) → CellStandsAt s p at c r
     → ((x behind : List ℕ) → r ≡ x ++ behind → IsCell s p c x → is_free c ≡ false → n ≡ length x) → n ≡ cell_len c
 stride_len s p at n r c stands strides =

@@ -52,10 +52,10 @@ IsHeadOfPad polarity head h =
     (system : FileSystem) (at : ℕ) (payload filler : List ℕ) → head.size ≡ length h + length payload → length filler < 8
     → (head.size + length filler) % 8 ≡ 0 → IsCell system polarity (Pad at head payload) (h ++ (payload ++ filler))
 
--- the fields of a new header (`fields_of`): of a file with valid data (`file_fields`), and of a pad (`pad_fields`). The
--- header checksum is an argument
-abbrev pub fields_of : List ℕ → ℕ → ℕ → ℕ → Bool → ℕ → ℕ → FileHead
-fields_of name kind attributes size large header_sum file_sum = record {
+-- the fields of a new header (`header_fields`): of a file with valid data (`file_fields`), and of a pad (`pad_fields`).
+-- The header checksum is an argument
+abbrev pub header_fields : List ℕ → ℕ → ℕ → ℕ → Bool → ℕ → ℕ → FileHead
+header_fields name kind attributes size large header_sum file_sum = record {
   name = guid_of name;
   kind = kind;
   attributes = attributes_by attributes;
@@ -68,8 +68,8 @@ fields_of name kind attributes size large header_sum file_sum = record {
 
 abbrev pub file_fields : Guid → ℕ → FileAttributes → ℕ → ℕ → ℕ → FileHead
 file_fields name kind attributes data_len file_sum header_sum =
-    fields_of (bytes_of name) kind (with_large (needs_large data_len) (attribute_bits attributes))
+    header_fields (bytes_of name) kind (with_large (needs_large data_len) (attribute_bits attributes))
     (file_header_len (needs_large data_len) + data_len) (needs_large data_len) header_sum file_sum
 
 abbrev pub pad_fields : ℕ → ℕ → FileHead
-pad_fields size header_sum = fields_of pad_name pad_kind 0 size false header_sum fixed_checksum
+pad_fields size header_sum = header_fields pad_name pad_kind 0 size false header_sum fixed_checksum

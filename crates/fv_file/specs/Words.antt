@@ -11,7 +11,7 @@ pub use Rattle.fv_file.specs.Cells.{CellForm, Valid, Pad, Dead, Stub, Free, offs
 pub use Rattle.fv_file.specs.NewHeaders.{needs_large, with_large, state_byte, pad_name, complement, file_sum_for}
 pub use Rattle.fv_file.specs.NewHeaders.{header_with, file_head_of, pad_head_of}
 unfoldable pub use Rattle.fv_file.specs.NewHeaders.{header_bytes}
-pub use Rattle.fv_file.specs.HeaderReads.{BeginsFile, IsNewHeader, IsHeadOfFile, IsHeadOfPad, fields_of, file_fields}
+pub use Rattle.fv_file.specs.HeaderReads.{BeginsFile, IsNewHeader, IsHeadOfFile, IsHeadOfPad, header_fields, file_fields}
 pub use Rattle.fv_file.specs.HeaderReads.{pad_fields}
 pub use Rattle.fv_file.specs.FileChecks.{leading_count, allows_large, file_header_len_at, file_size_at, payload_at}
 pub use Rattle.fv_file.specs.FileChecks.{may_be_large, has_header_sum, has_file_size, skips_data, has_file_sum}

@@ -200,7 +200,7 @@ fn skips_data(rest: &[u8], state: FileState) -> bool
 }
 
 // Returns whether the file is not fixed, or its fixed bit is not checked.
-fn may_move(rest: &[u8], state: FileState) -> bool
+pub(crate) fn may_move(rest: &[u8], state: FileState) -> bool
     requires { 24 ≤ length rest.now }
     ensures { result ≡ (skips_data (is_alive state) rest.now || not (is_fixed (attributes_at rest.now))) }
 {

@@ -1,16 +1,17 @@
 //! Taking the marks of fixed files away from a volume's body.
 
-ghost use Rattle.std.specs.Prelude.{◌≡◌, ◌≢◌, ◌⊎◌, ℕ, ◌+◌, ◌<◌, ◌≤◌, ◌%◌, ◌^◌, List, length, drop, slice_index};
-ghost use Rattle.std.specs.Prelude.{Err, IfErr, OnOk};
-ghost use Rattle.fv_base.specs.Words.{outer_fault};
+ghost use Rattle.std.specs.Prelude.{◌≡◌, ◌≢◌, ℕ, ◌+◌, ◌<◌, ◌≤◌, ◌%◌, ◌^◌, if◌then◌else◌, List, length, drop};
+ghost use Rattle.std.specs.Prelude.{IfErr, OnOk};
 ghost use Rattle.fv_base.specs.declared.fault.Fault.{Fault};
 ghost use Rattle.fv_file.specs.Cells.{CellForm, Tiles};
 ghost use Rattle.fv_file.specs.FileChecks.{IsFirstCellFault};
 ghost use Rattle.fv_file.specs.Unmarking.{unmarked, Unmarks};
-ghost use Rattle.fv_file.specs.inner.CellVerdicts.{cell_verdict};
+ghost use Rattle.fv_file.specs.inner.CellVerdicts.{is_held};
 
-use crate::cell_walk::{cell_at, is_free, stride_at};
-use crate::offsets::{ATTRIBUTES_OFFSET, HEADER_SUM_OFFSET};
+use crate::cell_walk::{is_free, stride_at};
+use crate::head::may_move;
+use crate::offsets::{ATTRIBUTES_OFFSET, HEADER_SUM_OFFSET, STATE_OFFSET};
+use crate::state::file_state;
 use crate::unmark_check::verify_unmarked;
 use fv_base::field::bytes_from;
 use fv_base::{Fault, FaultKind, FileSystem, Polarity};
@@ -18,52 +19,28 @@ use fv_base::{Fault, FaultKind, FileSystem, Polarity};
 // The bit of a file's attributes that marks the file as fixed: `FFS_ATTRIB_FIXED`.
 const FIXED: u8 = 0x04;
 
-// Takes the mark away from the fixed file at the offset `at` of the body. Header checksum and
-// attributes have the same sum afterwards, so the header's checksum stays right.
-fn unmark(body: &mut [u8], at: usize)
-    requires within { at + 20 ≤ length body.old }
-    requires marked { 4 ≤ slice_index body.old (at + 19) }
-    ensures { body.new ≡ unmarked at body.old }
+// Returns whether State, Type and Attributes of the header at the start of `rest` show a valid file
+// that is not a pad and is fixed. Checks nothing.
+fn is_held(rest: &[u8], polarity: Polarity) -> bool
+    requires { 24 ≤ length rest.now }
+    ensures { result ≡ is_held polarity rest.now }
 {
+    file_state(rest[STATE_OFFSET], polarity).is_some_and(|state| !may_move(rest, state))
+}
+
+// Takes the mark away from the file at the offset `at` of the body if the file is held. Header
+// checksum and attributes have the same sum afterwards, so the header's checksum stays right.
+fn unmark_at(body: &mut [u8], at: usize, polarity: Polarity)
+    requires { at + 24 ≤ length body.old }
+    ensures { body.new ≡ (if is_held polarity (drop at body.old) then unmarked at body.old else body.old) }
+{
+    if !is_held(bytes_from(body, at), polarity) {
+        return;
+    }
     let sum = body[at + HEADER_SUM_OFFSET].wrapping_add(FIXED);
     let attributes = body[at + ATTRIBUTES_OFFSET] - FIXED;
     body[at + HEADER_SUM_OFFSET] = sum;
     body[at + ATTRIBUTES_OFFSET] = attributes;
-}
-
-// Takes the mark away from the file at the offset `at` of the body if the first fault there is
-// Fixed. After that, the first fault there is not Fixed.
-fn unmark_at(body: &mut [u8], at: usize, first: u64, system: FileSystem, polarity: Polarity)
-    requires inside { at ≤ length body.old }
-    requires place { first + length body.old < 2 ^ 63 }
-    ensures step { (body.new ≡ body.old)
-        ⊎ ((cell_verdict system polarity (first + at) (drop at body.old) ≡ Err (outer_fault FaultKind.Fixed (first + at + 19)))
-        × (body.new ≡ unmarked at body.old)) }
-    ensures plain { (f : Fault) → cell_verdict system polarity (first + at) (drop at body.new) ≡ Err f → f.kind ≢ FaultKind.Fixed }
-{
-    let place = first + at as u64;
-    let Err(fault) = cell_at(bytes_from(body, at), place, system, polarity) else {
-        return;
-    };
-    if fault.kind == FaultKind::Fixed {
-        unmark(body, at);
-    }
-}
-
-// Takes the marks away from all fixed files of a body that `verify_unmarked` accepts.
-fn take_marks(body: &mut [u8], first: u64, system: FileSystem, polarity: Polarity)
-    requires multiple { length body.old % 8 ≡ 0 }
-    requires place { first + length body.old < 2 ^ 63 }
-    requires accepted { (places : List ℕ) × (o : List ℕ) × Unmarks system polarity first places body.old o
-        × ((cells : List CellForm) × Tiles system polarity first cells o) }
-    ensures { (places : List ℕ) × Unmarks system polarity first places body.old body.new
-        × ((cells : List CellForm) × Tiles system polarity first cells body.new) }
-{
-    let mut at = 0;
-    while !is_free(bytes_from(body, at), polarity) {
-        unmark_at(body, at, first, system, polarity);
-        at += stride_at(bytes_from(body, at), polarity);
-    }
 }
 
 /// Takes the marks away from all fixed files of a volume's body, which begins at the offset `first`
@@ -97,6 +74,10 @@ pub fn unmark_files(
         × IsFirstCellFault system polarity first o f × (f.kind ≢ FaultKind.Fixed)) }
 {
     verify_unmarked(body, first, system, polarity)?;
-    take_marks(body, first, system, polarity);
+    let mut at = 0;
+    while !is_free(bytes_from(body, at), polarity) {
+        unmark_at(body, at, polarity);
+        at += stride_at(bytes_from(body, at), polarity);
+    }
     Ok(())
 }

@@ -1,2 +1,3 @@
+pub mod DecidedScanLaws
 pub mod Laws
 pub mod ScanLaws

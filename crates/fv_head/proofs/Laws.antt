@@ -18,5 +18,5 @@ pub use Rattle.fv_head.proofs.ExtImageLemmas.{ext_again, ext_len_most}
 pub use Rattle.fv_head.proofs.HeadImageLemmas.{canonical_is, canonical_only, length-canonical, header_len_is, header_len_most}
 -- The canonical head, with its extended header in a pad file after it, begins a volume with its fields.
 pub use Rattle.fv_head.proofs.HeadImageLemmas.{canonical_front}
--- Bytes begin with a volume, or the checks of a volume header have a first fault.
-pub use Rattle.fv_head.proofs.DecidedLemmas.{front_decided}
+-- Bytes begin with a volume, or the checks of a volume header have a first fault, and never both.
+pub use Rattle.fv_head.proofs.DecidedLemmas.{front_decided, front_never}

@@ -6,6 +6,7 @@ mod block_map;
 mod ext;
 mod ext_image;
 mod extent;
+pub mod further_laws;
 mod head;
 mod head_image;
 mod header_checks;

@@ -4,6 +4,7 @@
 
 mod block_kinds;
 mod fault;
+pub mod further_laws;
 mod hob;
 mod hob_list;
 mod hob_type;

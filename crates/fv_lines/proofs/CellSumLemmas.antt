@@ -12,9 +12,10 @@ use Rattle.fv_base.specs.declared.flash.Polarity.{Polarity}
 use Rattle.fv_file.proofs.Laws.{cell_span}
 use Rattle.fv_file.specs.Words.{CellForm, Valid, Tiles, CellsWithin, cell_len}
 use Rattle.fv_head.specs.declared.extent.Extent.{Extent}
+use Rattle.fv_head.proofs.Laws.{first_lies}
 use Rattle.fv_tree.specs.Words.{BeginsTiled}
 use Rattle.fv_lines.specs.Words.{lengths_of, sums_of}
-use Rattle.fv_lines.specs.inner.LineRuns.{FitTogether, Fits, counted, sums_with}
+use Rattle.fv_lines.specs.inner.LineRuns.{CellFits, FitTogether, counted, sums_with}
 
 -- ---- sums
 
@@ -45,11 +46,11 @@ counted_next see xs i d l small =
 
 -- an item of a list whose cells all fit has a cell that fits
 pub fits_at : {X : Type 0} (see : X → CellForm) (xs : List X) (i : ℕ) (d : X) → i < length xs
-    → AllByRecursion Fits (map see xs) → Fits (see (get_or xs i d))
-fits_at see xs i d l all = rw (get_or-map see xs i d) at (at_index Fits (map see xs) i (see d) all (omega (arith, l, length-map xs see)))
+    → AllByRecursion CellFits (map see xs) → CellFits (see (get_or xs i d))
+fits_at see xs i d l all = rw (get_or-map see xs i d) at (at_index CellFits (map see xs) i (see d) all (omega (arith, l, length-map xs see)))
 
 -- cells that lie within a volume fit, because a volume has at most `volume_limit` bytes
-all_fit : (end : ℕ) (cs : List CellForm) → end ≤ volume_limit → CellsWithin end cs → AllByRecursion Fits cs
+all_fit : (end : ℕ) (cs : List CellForm) → end ≤ volume_limit → CellsWithin end cs → AllByRecursion CellFits cs
 all_fit end [] small within = tt
 all_fit end (c ∷ cs) small (lies, made, rest) =
     (record { within = omega (arith, lies, small); lengths_agree = made }, all_fit end cs small rest)
@@ -72,3 +73,17 @@ fit_together input e cs b within =
       together =
           omega (arith, tiles_sum e.file_system e.polarity e.first cs (drop e.first volume) b.tiles, length-drop e.first volume, small);
     }
+
+-- the sums of the cells of a volume, with the bytes before its body, are its length
+pub add_up : (b : List ℕ) (e : Extent) (cs : List CellForm) → BeginsTiled e cs b → e.first + counted (sums_of cs) ≡ e.length
+add_up b e cs t =
+    let volume = take e.length b in
+    let long : length volume ≡ e.length = length-take-le e.length b t.begins.is_within in
+    omega (
+      arith,
+      counted_is cs,
+      tiles_sum e.file_system e.polarity e.first cs (drop e.first volume) t.tiles,
+      length-drop e.first volume,
+      long,
+      (first_lies b t.head e t.begins).1,
+    )

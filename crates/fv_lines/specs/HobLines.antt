@@ -1,12 +1,11 @@
 -- The text of `hobs`, and the content of an image where a volume should be.
-use Rattle.std.specs.Prelude.{◌≡◌, ◌≤◌, ℕ, ◌+◌, ◌-◌, List, length, take, drop, [], ◌∷◌, ◌++◌, Option, None, Some, codes}
+use Rattle.std.specs.Prelude.{◌≤◌, ℕ, ◌+◌, ◌-◌, List, length, take, drop, [], ◌∷◌, ◌++◌, Option, None, Some, codes}
 use Rattle.std.specs.Prelude.{decimal}
-use Rattle.fv_head.specs.Words.{HeadFields, BeginsVolume}
-use Rattle.fv_head.specs.declared.extent.Extent.{Extent}
 use Rattle.fv_hob.specs.Words.{HobForm, hob_type, hob_len, span_of}
 use Rattle.fv_hob.specs.declared.span.Span.{Span}
 use Rattle.fv_lines.specs.declared.hob_text.SpanContent.{SpanContent}
 use Rattle.fv_lines.specs.declared.hob_text.SpanContent.TheVariants.{Outside, Volume, Absent}
+use Rattle.fv_tree.specs.Words.{EndsWithVolume}
 use Rattle.fv_text.specs.Words.{four_digits, line_feed}
 use Rattle.fv_lines.specs.declared.hob_text.MappedImage.{MappedImage}
 
@@ -18,17 +17,12 @@ IsMapped base n s = (base ≤ s.base) × (s.base + s.length ≤ base + n)
 abbrev pub bytes_in_span : List ℕ → ℕ → Span → List ℕ
 bytes_in_span image base s = take s.length (drop (s.base - base) image)
 
--- the bytes begin with the header of a volume whose length is the number of these bytes; the body of the volume is not
--- checked
-abbrev pub IsWholeVolume : List ℕ → Type 0
-IsWholeVolume b = (h : HeadFields) × (e : Extent) × BeginsVolume h e b × (e.length ≡ length b)
-
 -- the content of the image in the span: Outside, if the span is not within the image; otherwise Volume, if a volume
--- fills the span, or Absent, if none does
+-- fills the span (`EndsWithVolume`), or Absent, if none does. The body of the volume is not checked
 abbrev pub IsSpanContent : List ℕ → ℕ → Span → SpanContent → Type 0
 IsSpanContent image base s Outside = IsMapped base (length image) s → ⊥
-IsSpanContent image base s Volume = IsMapped base (length image) s × IsWholeVolume (bytes_in_span image base s)
-IsSpanContent image base s Absent = IsMapped base (length image) s × (IsWholeVolume (bytes_in_span image base s) → ⊥)
+IsSpanContent image base s Volume = IsMapped base (length image) s × EndsWithVolume (bytes_in_span image base s)
+IsSpanContent image base s Absent = IsMapped base (length image) s × (EndsWithVolume (bytes_in_span image base s) → ⊥)
 
 -- an image: its bytes, and the address of the first byte
 pub record MappedForm : Type 0 where

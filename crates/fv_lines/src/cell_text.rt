@@ -6,7 +6,7 @@ ghost use Rattle.std.specs.List.{flat_map, sum_by};
 ghost use Rattle.fv_base.specs.Words.{up_to_8, OrMemory};
 ghost use Rattle.fv_file.specs.Words.{Dead, Valid, cell_form, cell_len};
 ghost use Rattle.fv_lines.specs.CellTexts.{CellsText, cell_line, span_line, span_text, sums_line, sums_of};
-ghost use Rattle.fv_lines.specs.inner.LineRuns.{FitTogether, Fits, counted, sums_with};
+ghost use Rattle.fv_lines.specs.inner.LineRuns.{CellFits, FitTogether, counted, sums_with};
 ghost use Rattle.fv_tree.specs.Words.{NotTiled};
 
 use fv_base::field::up_to_8;
@@ -84,7 +84,7 @@ fn dead_name(state: FileState) -> &'static [u8]
 
 // Puts the line of a cell.
 fn put_cell<S: Sink>(out: &mut S, cell: &Cell<'_>)
-    requires { Fits (cell_form cell.now) }
+    requires { CellFits (cell_form cell.now) }
     ensures { S.takes out.old (cell_line (cell_form cell.now)) out.new }
 {
     match *cell {

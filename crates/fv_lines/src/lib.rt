@@ -8,6 +8,7 @@ mod cell_text;
 mod check_text;
 mod depex_notes;
 mod digest_text;
+pub mod further_laws;
 mod hob_text;
 mod leaf_text;
 mod list_text;

@@ -7,15 +7,15 @@
 -- 3. If there are no twins, a marked file is replaced exactly if two entries have its name (`replaced_back`,
 --    `shared_replaced`).
 -- 4. If no entry shares its name, there are no twins, and no file is replaced (`apart_twins`, `none_replaced`).
-use Rattle.std.proofs.Common.{◌≡◌, ◌≤◌, ◌<◌, ◌⊎◌, ℕ, ◌+◌, ◌-◌, [], ◌∷◌, ◌&&◌, zero, suc, List, length, take, get_or, map, Bool, true, false, refl}
+use Rattle.std.proofs.Common.{◌≡◌, ◌≤◌, ◌<◌, ◌⊎◌, ℕ, ◌+◌, ◌-◌, [], ◌∷◌, zero, suc, List, length, take, get_or, map, Bool, true, false, refl}
 use Rattle.std.proofs.Common.{sym, ap, ◌∙◌, subst, arith, inl, inr, not, get_or-take, length-take-le, take_all}
 use Rattle.fv_base.proofs.Laws.{common_steps, Decides, booleans_Decides, AllByRecursion, list_any, cases_lt, not_from_Decides, get_or_default}
-use Rattle.fv_base.proofs.Laws.{get_or-map, length-map, recursion_from_All, Any-from_list_any, list_any_at, at_index, or_both}
-use Rattle.std.proofs.lemmas.Bool.Decides.{Decides-and, same_from_decides}
+use Rattle.fv_base.proofs.Laws.{get_or-map, length-map, recursion_from_All, Any-from_list_any, list_any_at, at_index}
+use Rattle.std.proofs.lemmas.Bool.{false_from_ne_true, not_from_false}
+use Rattle.std.proofs.lemmas.Bool.Decides.{Decides-and, Decides-like}
 use Rattle.std.specs.List.{Contains}
 use Rattle.std.proofs.lemmas.List.Elements.{All-from_get_or}
 use Rattle.std.proofs.lemmas.List.Folds.{list_any_none}
-use Rattle.fv_base.specs.declared.guid.Guid.{Guid}
 use Rattle.fv_names.specs.Words.{NamedFile, NoTwins, is_twin, names_in, replaced_by, same_name, NeighboursDiffer, Entry, IsIndex, IsName, halves_of}
 use Rattle.fv_names.specs.inner.NameOrders.{AreTwins, IsShared, IsTwinAt, mark_at}
 use Rattle.fv_names.proofs.IndexLaws.{between, beyond, of_name, place_of, upward}
@@ -27,7 +27,7 @@ none_at : (test : NamedFile → Bool) (fs : List NamedFile) (k : ℕ) (d : Named
     → test (get_or fs k d) ≡ false
 none_at test fs k d h l = grind (arith, common_steps, list_any_at)
 
-twins_apart : (fs : List NamedFile) (i j : ℕ) (d : NamedFile) → NoTwins fs → i < j → j < length fs
+twins_apart : (fs : List NamedFile) (i j : ℕ) (d : NamedFile) → NoTwins is_twin fs → i < j → j < length fs
     → is_twin (get_or fs i d) (get_or fs j d) ≡ false
 twins_apart [] i j d none p q = absurd (omega (arith, q))
 twins_apart (f ∷ fs) zero zero d none p q = absurd (omega (arith, p))
@@ -36,7 +36,7 @@ twins_apart (f ∷ fs) (suc i) zero d none p q = absurd (omega (arith, p))
 twins_apart (f ∷ fs) (suc i) (suc j) d none p q = twins_apart fs i j d none.1 (omega (arith, p)) (omega (arith, q))
 
 no_twins_from : (fs : List NamedFile) (d : NamedFile)
-    → ((i j : ℕ) → i < j → j < length fs → is_twin (get_or fs i d) (get_or fs j d) ≡ false) → NoTwins fs
+    → ((i j : ℕ) → i < j → j < length fs → is_twin (get_or fs i d) (get_or fs j d) ≡ false) → NoTwins is_twin fs
 no_twins_from [] d h = tt
 no_twins_from (f ∷ fs) d h = (
   list_any_none (is_twin f) fs (All-from_get_or (λ g. is_twin f g ≡ false) fs d (λ k l. h 0 (suc k) (omega arith) (omega (arith, l)))),
@@ -49,11 +49,7 @@ two_same a b c = grind (arith, common_steps) steps 150000
 
 -- a file that is not marked is not replaced
 pub unmarked_kept : (f : NamedFile) (fs : List NamedFile) → f.marked ≡ false → list_any (replaced_by f) fs ≡ false
-unmarked_kept f [] off = refl
-unmarked_kept f (g ∷ gs) off = or_both (replaced_by f g) (list_any (replaced_by f) gs) (here (same_name f g)) (unmarked_kept f gs off) where
-  here : (same : Bool) → (same && (f.marked && not g.marked)) ≡ false
-  here true = rw off refl
-  here false = refl
+unmarked_kept f fs off = list_any_none (replaced_by f) fs (λ k d l. grind (arith, common_steps))
 
 -- ---- the files of an index
 
@@ -90,13 +86,8 @@ module _ (fs : List NamedFile) (es : List Entry) (index : IsIndex (names_in fs) 
 
   -- two files have the same name exactly if their entries have, and are twins exactly if their entries are
   one_name : (p q : ℕ) → p < length es → q < length es → Decides (same_name (file p) (file q)) ((at p).0 ≡ (at q).0)
-  one_name p q k l =
-      let a : Guid = (file p).name in
-      let b : Guid = (file q).name in
-      let names = names_decide a b (whole_name p k) (whole_name q l) in (
-        λ h. has_name p k ∙ names.0 h ∙ sym (has_name q l),
-        λ h. names.1 (sym (has_name p k) ∙ h ∙ has_name q l),
-      )
+  one_name p q k l = Decides-like _ (λ h. has_name p k ∙ h ∙ sym (has_name q l)) (λ h. sym (has_name p k) ∙ h ∙ has_name q l)
+      (names_decide (file p).name (file q).name (whole_name p k) (whole_name q l))
 
   twins : (p q : ℕ) → p < length es → q < length es → Decides (is_twin (file p) (file q)) (AreTwins fs d (at p) (at q))
   twins p q k l = Decides-and (same_name (file p) (file q)) _ (one_name p q k l) (booleans_Decides (file p).marked (file q).marked)
@@ -119,146 +110,92 @@ module _ (fs : List NamedFile) (es : List Entry) (index : IsIndex (names_in fs) 
   twin_before q above l (inl h) = twin_since (q - 1) q (omega (arith, above)) l h
   twin_before q above l (inr h) = twin_since (q - 2) q (omega (arith, above)) l h
 
-  -- if an entry has a twin before it, this entry or the preceding one has a twin among the two entries before it
-  near : (p q : ℕ) → p < q → q < length es → AreTwins fs d (at p) (at q)
-      → (r : ℕ) × (0 < r) × (r < length es) × ((at r).1 ≤ (at q).1) × IsTwinAt fs d es e r
-  near p q lt l h = go (cases_lt (p + 1) q) where
-    mark : ℕ → Bool
-    mark r = mark_at fs d (at r).1
+  -- let n be at most the number of each entry that has a twin among the two entries before it
+  module _ (n : ℕ) (least : (r : ℕ) → 0 < r → r < length es → IsTwinAt fs d es e r → n ≤ (get_or es r e).1) where
+    -- then n is at most the number of each entry that has a twin before it: this entry or the preceding one has a twin
+    -- among the two entries before it
+    near : (p q : ℕ) → p < q → q < length es → AreTwins fs d (at p) (at q) → (p + 1 < q) ⊎ (q ≤ p + 1) → n ≤ (at q).1
+    near p q lt l h (inr last) =
+        let one : p ≡ q - 1 = omega (arith, lt, last) in least q (omega (arith, lt)) l (inl (subst (λ (k : ℕ). AreTwins fs d (at k) (at q)) one h))
+    near p q lt l h (inl more) =
+        let named : (r : ℕ) → p ≤ r → r ≤ q → (at r).0 ≡ (at q).0 = λ r low high. between (names_in fs) es index d.name e p r q low high l h.0 in
+        let one : (at (q - 1)).0 ≡ (at q).0 = named (q - 1) (omega (arith, lt)) (omega arith) in
+        let two : (at (q - 2)).0 ≡ (at q).0 = named (q - 2) (omega (arith, more)) (omega arith) in
+        elim (two_same (mark_at fs d (at (q - 2)).1) (mark_at fs d (at (q - 1)).1) (mark_at fs d (at q).1)) [
+          | inl same ↦
+              let back : q - 2 ≡ q - 1 - 1 = omega arith in
+              let twin : AreTwins fs d (at (q - 1 - 1)) (at (q - 1)) =
+              subst (λ (k : ℕ). AreTwins fs d (at k) (at (q - 1))) back (two ∙ sym one, same) in
+              omega (
+                arith,
+                least (q - 1) (omega (arith, more)) (omega (arith, l)) (inl twin),
+                upward (names_in fs) es index d.name e (q - 1) q (omega arith) l one,
+              )
+          | inr other ↦ elim other [
+            | inl same ↦ least q (omega (arith, lt)) l (inl (one, same))
+            | inr same ↦ least q (omega (arith, lt)) l (inr (two, same))
+          ]
+        ]
 
-    named : (r : ℕ) → p ≤ r → r ≤ q → (at r).0 ≡ (at q).0
-    named r low high = between (names_in fs) es index d.name e p r q low high l h.0
-
-    Near : Type 0
-    Near = (r : ℕ) × (0 < r) × (r < length es) × ((at r).1 ≤ (at q).1) × IsTwinAt fs d es e r
-
-    here : IsTwinAt fs d es e q → Near
-    here twin = (q, omega (arith, lt), l, omega arith, twin)
-
-    three : p + 1 < q → (mark (q - 2) ≡ mark (q - 1)) ⊎ ((mark (q - 1) ≡ mark q) ⊎ (mark (q - 2) ≡ mark q)) → Near
-    three more (inl same) =
-        let two : q - 2 ≡ q - 1 - 1 = omega (arith, more) in
-        let before : (at (q - 1)).0 ≡ (at q).0 = named (q - 1) (omega (arith, more)) (omega arith) in
-        let twin : AreTwins fs d (at (q - 2)) (at (q - 1)) = (named (q - 2) (omega (arith, more)) (omega arith) ∙ sym before, same) in (
-          q - 1,
-          omega (arith, more),
-          omega (arith, l),
-          upward (names_in fs) es index d.name e (q - 1) q (omega arith) l before,
-          inl (subst (λ (k : ℕ). AreTwins fs d (at k) (at (q - 1))) two twin),
-        )
-    three more (inr (inl same)) = here (inl (named (q - 1) (omega (arith, more)) (omega arith), same))
-    three more (inr (inr same)) = here (inr (named (q - 2) (omega (arith, more)) (omega arith), same))
-
-    go : (p + 1 < q) ⊎ (q ≤ p + 1) → Near
-    go (inl more) = three more (two_same (mark (q - 2)) (mark (q - 1)) (mark q))
-    go (inr last) =
-        let one : p ≡ q - 1 = omega (arith, lt, last) in here (inl (subst (λ (k : ℕ). AreTwins fs d (at k) (at q)) one h))
-
-  -- let n be at most the number of each entry that has a twin among the two entries before it: then the first n files
-  -- have no twins
-  pub first_none : (n : ℕ) → n ≤ length fs
-      → ((r : ℕ) → 0 < r → r < length es → IsTwinAt fs d es e r → n ≤ (get_or es r e).1) → NoTwins (take n fs)
-  first_none n most least = no_twins_from (take n fs) d (λ i j p q.
-      let low : j < n = omega (arith, q, length-take-le n fs most) in
-      ap (λ f. is_twin f (get_or (take n fs) j d)) (get_or-take n fs i d (omega (arith, p, low)))
-      ∙ ap (is_twin (get_or fs i d)) (get_or-take n fs j d low) ∙ one i j p low (is_twin (get_or fs i d) (get_or fs j d)) refl)
-    where
-      found : (i j k m : ℕ) → i < j → j < n → k < length es → m < length es → (at k).1 ≡ i → (at m).1 ≡ j
-          → AreTwins fs d (at k) (at m) → (k < m) ⊎ (m ≤ k) → ⊥
-      found i j k m p q x y first second twin (inl lt) =
-          let r = near k m lt y twin in
-          let low : n ≤ (at r.0).1 = least r.0 r.1 r.2 r.4 in
-          omega (arith, low, r.3, second, q)
-      found i j k m p q x y first second twin (inr le) =
-          let back : (at m).1 ≤ (at k).1 = upward (names_in fs) es index d.name e m k le x (sym twin.0) in
-          omega (arith, back, first, second, p)
-
-      one : (i j : ℕ) → i < j → j < n → (t : Bool) → is_twin (get_or fs i d) (get_or fs j d) ≡ t → t ≡ false
-      one i j p q false h = refl
-      one i j p q true h =
-          let a = entry_of i (omega (arith, p, q, most)) in
-          let b = entry_of j (omega (arith, q, most)) in
-          let same : is_twin (file a.0) (file b.0) ≡ true =
-          ap (λ (k : ℕ). is_twin (get_or fs k d) (file b.0)) a.2 ∙ ap (λ (k : ℕ). is_twin (get_or fs i d) (get_or fs k d)) b.2 ∙ h in
-          absurd (found i j a.0 b.0 p q a.1 b.1 a.2 b.2 ((twins a.0 b.0 a.1 b.1).0 same) (cases_lt a.0 b.0))
+    -- so the first n files have no twins
+    pub first_none : n ≤ length fs → NoTwins is_twin (take n fs)
+    first_none most = no_twins_from (take n fs) d (λ i j p q. false_from_ne_true _ (λ same.
+        let low : j < n = omega (arith, q, length-take-le n fs most) in
+        let a = entry_of i (omega (arith, p, low, most)) in
+        let b = entry_of j (omega (arith, low, most)) in
+        let twin : AreTwins fs d (at a.0) (at b.0) = (twins a.0 b.0 a.1 b.1).0
+        (rw (a.2, b.2) (rw (get_or-take n fs i d (omega (arith, p, low)), get_or-take n fs j d low) at same)) in
+        elim (cases_lt a.0 b.0) [
+          | inl lt ↦ omega (arith, near a.0 b.0 lt b.1 twin (cases_lt (a.0 + 1) b.0), b.2, low)
+          | inr le ↦ omega (arith, upward (names_in fs) es index d.name e b.0 a.0 le a.1 (sym twin.0), a.2, b.2, p)
+        ]))
 
   -- ---- files that are replaced
 
   replaces_at : (p q : ℕ) → p < length es → q < length es → Decides (replaced_by (file p) (file q)) (((at p).0 ≡ (at q).0)
       × (((file p).marked ≡ true) × (not (file q).marked ≡ true)))
-  replaces_at p q k l =
-      let m : Bool = (file p).marked in
-      let n : Bool = not (file q).marked in
-      Decides-and (same_name (file p) (file q)) (m && n) (one_name p q k l) (Decides-and m n ((λ h. h), (λ h. h)) ((λ h. h), (λ h. h)))
+  replaces_at p q k l = Decides-and _ _ (one_name p q k l) (Decides-and _ _ ((λ h. h), (λ h. h)) ((λ h. h), (λ h. h)))
 
-  -- if two files have the same name and are not twins, the marked one is replaced
-  beside : (p q : ℕ) → p < length es → q < length es → (p < q) ⊎ (q < p) → NoTwins fs → (at q).0 ≡ (at p).0
-      → (file p).marked ≡ true → list_any (replaced_by (file p)) fs ≡ true
-  beside p q k l order none same marked =
-      list_any_at (replaced_by (file p)) fs (at q).1 d (number_within q l)
-      ((replaces_at p q k l).1 (sym same, (marked, plain (file q).marked refl)))
-    where
-      twin : (r s : ℕ) → r < s → s < length es → AreTwins fs d (at r) (at s) → ⊥
-      twin r s lt m both =
-          not_from_Decides (is_twin (file r) (file s)) (twins r s (omega (arith, lt, m)) m)
-          (twins_apart fs (at r).1 (at s).1 d none (beyond (names_in fs) es index d.name e r s lt m both.0) (number_within s m)) both
-
-      never : (p < q) ⊎ (q < p) → (file q).marked ≡ (file p).marked → ⊥
-      never (inl lt) alike = twin p q lt l (sym same, sym alike)
-      never (inr lt) alike = twin q p lt k (same, alike)
-
-      plain : (t : Bool) → (file q).marked ≡ t → not t ≡ true
-      plain false is = refl
-      plain true is = absurd (never order (is ∙ sym marked))
-
-  -- if a file is replaced, it is marked, and two entries have its name
-  replaced_back : (p : ℕ) → p < length es → list_any (replaced_by (file p)) fs ≡ true → IsShared es e (at p).0 × ((file p).marked ≡ true)
+  -- if a file is replaced, two entries have its name
+  replaced_back : (p : ℕ) → p < length es → list_any (replaced_by (file p)) fs ≡ true → IsShared es e (at p).0
   replaced_back p l h =
       let r = Any-from_list_any (replaced_by (file p)) fs h in
       let b = entry_of r.0 r.2 in
       let is : file b.0 ≡ r.1 = ap (λ (n : ℕ). get_or fs n d) b.2 ∙ get_or_default fs r.0 d r.1 r.2 ∙ r.3 in
       let parts = (replaces_at p b.0 l b.1).0 (ap (replaced_by (file p)) is ∙ r.4) in
-      (side b.0 b.1 parts.0 parts.1.1 parts.1.0 (cases_lt p b.0) (cases_lt b.0 p), parts.1.0)
-    where
-      itself : (m : Bool) → m ≡ true → not m ≡ true → ⊥
-      itself m x y = cc
+      let other : b.0 ≡ p → ⊥ = λ same. let on : not true ≡ true = ap not (sym (ap (λ (k : ℕ). (file k).marked) same ∙ parts.1.0)) ∙ parts.1.1 in cc in
+      elim (cases_lt p b.0) [
+        | inl lt ↦ (p, b.0, lt, b.1, refl, sym parts.0)
+        | inr le ↦ (b.0, p, omega (arith, le, other), l, sym parts.0, refl)
+      ]
 
-      side : (q : ℕ) → q < length es → (at p).0 ≡ (at q).0 → not (file q).marked ≡ true
-          → (file p).marked ≡ true → (p < q) ⊎ (q ≤ p) → (q < p) ⊎ (p ≤ q) → IsShared es e (at p).0
-      side q m same plain marked (inl lt) other = (p, q, lt, m, refl, sym same)
-      side q m same plain marked (inr le) (inl lt) = (q, p, lt, l, sym same, refl)
-      side q m same plain marked (inr le) (inr ge) =
-          let here : q ≡ p = omega (arith, le, ge) in
-          absurd (itself (file p).marked marked (ap (λ (k : ℕ). not (file k).marked) (sym here) ∙ plain))
-
-  -- if two entries have the name of a marked file, and there are no twins, the file is replaced
-  shared_replaced : NoTwins fs → (p : ℕ) → p < length es → (file p).marked ≡ true → IsShared es e (at p).0
+  -- if two entries have the name of a marked file, and there are no twins, the file of one of them is not marked, and
+  -- replaces the marked file
+  replaced_beside : (p q : ℕ) → p < length es → q < length es → (at q).0 ≡ (at p).0 → (file p).marked ≡ true → (file q).marked ≡ false
       → list_any (replaced_by (file p)) fs ≡ true
-  shared_replaced none p l marked (i, j, lt, m, first, second) = go (cases_lt i p) where
-    go : (i < p) ⊎ (p ≤ i) → list_any (replaced_by (file p)) fs ≡ true
-    go (inl less) = beside p i l (omega (arith, less, l)) (inr less) none first marked
-    go (inr most) = beside p j l m (inl (omega (arith, most, lt))) none second marked
+  replaced_beside p q k l same on off =
+      list_any_at (replaced_by (file p)) fs (at q).1 d (number_within q l) ((replaces_at p q k l).1 (sym same, (on, not_from_false _ off)))
+
+  shared_replaced : NoTwins is_twin fs → (p : ℕ) → p < length es → (file p).marked ≡ true → IsShared es e (at p).0
+      → list_any (replaced_by (file p)) fs ≡ true
+  shared_replaced none p l on (i, j, lt, m, first, second) = go (file i).marked refl where
+    go : (t : Bool) → (file i).marked ≡ t → list_any (replaced_by (file p)) fs ≡ true
+    go false off = replaced_beside p i l (omega (arith, lt, m)) first on off
+    go true also = replaced_beside p j l m second on (false_from_ne_true _ (λ too.
+        let same : (at i).0 ≡ (at j).0 = first ∙ sym second in
+        not_from_Decides _ (twins i j (omega (arith, lt, m)) m) (twins_apart fs (at i).1 (at j).1 d none
+        (beyond (names_in fs) es index d.name e i j lt m same) (number_within j m)) (same, also ∙ sym too)))
 
   -- so a marked file is replaced exactly if two entries have its name
-  pub update_shares : NoTwins fs → (f : NamedFile) (t : Bool) → Contains fs f → f.marked ≡ true
-      → (t ≡ true → IsShared es e (halves_of f.name)) → (IsShared es e (halves_of f.name) → t ≡ true) → t ≡ list_any (replaced_by f) fs
-  update_shares none f t (n, l, is) marked shown all = same_from_decides t (list_any (replaced_by f) fs) (shown, all) (back, forth) where
-    r : (p : ℕ) × (p < length es) × ((get_or es p e).1 ≡ n)
-    r = entry_of n l
-
-    same : file r.0 ≡ f
-    same = ap (λ (k : ℕ). get_or fs k d) r.2 ∙ get_or_default fs n d f l ∙ is
-
-    key : (at r.0).0 ≡ halves_of f.name
-    key = has_name r.0 r.1 ∙ ap (λ (g : NamedFile). halves_of g.name) same
-
-    back : list_any (replaced_by f) fs ≡ true → IsShared es e (halves_of f.name)
-    back h = subst (IsShared es e) key (replaced_back r.0 r.1 (ap (λ (g : NamedFile). list_any (replaced_by g) fs) same ∙ h)).0
-
-    forth : IsShared es e (halves_of f.name) → list_any (replaced_by f) fs ≡ true
-    forth shared =
-        ap (λ (g : NamedFile). list_any (replaced_by g) fs) (sym same)
-        ∙ shared_replaced none r.0 r.1 (ap (λ (g : NamedFile). g.marked) same ∙ marked) (subst (IsShared es e) (sym key) shared)
+  pub update_shares : NoTwins is_twin fs → (f : NamedFile) → Contains fs f → f.marked ≡ true
+      → Decides (list_any (replaced_by f) fs) (IsShared es e (halves_of f.name))
+  update_shares none f (n, l, is) =
+      let r = entry_of n l in
+      let same : file r.0 ≡ f = ap (λ (k : ℕ). get_or fs k d) r.2 ∙ get_or_default fs n d f l ∙ is in
+      subst (λ (g : NamedFile). g.marked ≡ true → Decides (list_any (replaced_by g) fs) (IsShared es e (halves_of g.name))) same (λ on. (
+        λ h. subst (IsShared es e) (has_name r.0 r.1) (replaced_back r.0 r.1 h),
+        λ shared. shared_replaced none r.0 r.1 on (subst (IsShared es e) (sym (has_name r.0 r.1)) shared),
+      ))
 
   -- ---- names that differ
 
@@ -268,24 +205,18 @@ module _ (fs : List NamedFile) (es : List Entry) (index : IsIndex (names_in fs) 
     no_twin_at r above l (inr h) = apart e r above l (between (names_in fs) es index d.name e (r - 2) (r - 1) r (omega arith) (omega arith) l h.0)
 
     -- if no entry shares its name, there are no twins
-    pub apart_twins : NoTwins fs
+    pub apart_twins : NoTwins is_twin fs
     apart_twins =
-        subst NoTwins (take_all (length fs) fs (omega arith)) (first_none (length fs) (omega arith) (λ r above l twin.
-        absurd (no_twin_at r above l twin)))
+        subst (NoTwins is_twin) (take_all (length fs) fs (omega arith)) (first_none (length fs) (λ r above l twin. absurd (no_twin_at r above l twin)) (omega arith))
 
     alone : (p : ℕ) → IsShared es e (at p).0 → ⊥
     alone p (i, j, lt, m, first, second) =
         apart e j (omega (arith, lt)) m (between (names_in fs) es index d.name e i (j - 1) j (omega (arith, lt)) (omega arith) m (first ∙ sym second))
 
-    not_replaced : (n : ℕ) → n < length fs → (t : Bool) → list_any (replaced_by (get_or fs n d)) fs ≡ t → t ≡ false
-    not_replaced n l false h = refl
-    not_replaced n l true h =
-        let r = entry_of n l in
-        absurd (alone r.0 (replaced_back r.0 r.1 (ap (λ (k : ℕ). list_any (replaced_by (get_or fs k d)) fs) r.2 ∙ h)).0)
-
     -- if no entry shares its name, no file is replaced
     pub none_replaced : AllByRecursion (λ f. list_any (replaced_by f) fs ≡ false) fs
-    none_replaced = recursion_from_All _ fs (All-from_get_or (λ f. list_any (replaced_by f) fs ≡ false) fs d (λ n l. not_replaced n l _ refl))
+    none_replaced = recursion_from_All _ fs (All-from_get_or (λ f. list_any (replaced_by f) fs ≡ false) fs d (λ n l. false_from_ne_true _ (λ h.
+        let r = entry_of n l in alone r.0 (replaced_back r.0 r.1 (ap (λ (k : ℕ). list_any (replaced_by (get_or fs k d)) fs) r.2 ∙ h)))))
 
 -- ---- the files of the code
 

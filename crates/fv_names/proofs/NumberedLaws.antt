@@ -1,11 +1,10 @@
 -- A name of 16 bytes is two numbers, its halves, and the entries of an index are the names with the numbers of their
 -- files.
-use Rattle.std.proofs.Common.{◌≡◌, ◌≤◌, ◌<◌, ℕ, ◌+◌, [], ◌∷◌, ◌++◌, zero, suc, List, length, take, drop, get_or, map, refl, sym, ap, ◌∙◌, arith}
+use Rattle.std.proofs.Common.{◌≡◌, ◌≤◌, ◌<◌, ℕ, ◌+◌, [], ◌∷◌, ◌++◌, zero, suc, List, length, take, drop, get_or, refl, sym, ap, ◌∙◌, arith}
 use Rattle.std.proofs.Common.{length-drop, length-take-le, take-append-drop, take_all}
-use Rattle.fv_base.proofs.Laws.{Decides, range_with_len, bytes_eq, bytes_eq-Decides, bytes_of, IsBytes, field, bytes_drop, bytes_take}
+use Rattle.fv_base.proofs.Laws.{Decides, bytes_eq, bytes_eq-Decides, bytes_of, IsBytes, field, bytes_drop, bytes_take}
 use Rattle.std.specs.Int.{from_le_bytes, to_le_bytes, w64}
 use Rattle.std.proofs.lemmas.Bool.Decides.{Decides-like}
-use Rattle.std.proofs.lemmas.List.FromFn.{fill_by_all}
 use Rattle.std.proofs.lemmas.Nat.{le_bytes_8}
 use Rattle.fv_base.specs.declared.guid.Guid.{Guid}
 use Rattle.fv_names.specs.Words.{Entry, Halves, IsName, halves_in, halves_of, numbered}
@@ -39,22 +38,12 @@ pub numbered_length : (k : ℕ) (names : List Guid) → length (numbered k names
 numbered_length k [] = refl
 numbered_length k (m ∷ names) = ap suc (numbered_length (k + 1) names)
 
-pub numbered_at : (k : ℕ) (names : List Guid) (i : ℕ) (g : Guid) (e : Entry) → i < length names
+numbered_from : (k : ℕ) (names : List Guid) (i : ℕ) (g : Guid) (e : Entry) → i < length names
     → get_or (numbered k names) i e ≡ (halves_of (get_or names i g), k + i)
-numbered_at k [] i g e l = absurd (omega (arith, l))
-numbered_at k (m ∷ names) zero g e l = let z : k ≡ k + 0 = omega arith in ap (λ (j : ℕ). (halves_of m, j)) z
-numbered_at k (m ∷ names) (suc i) g e l =
-    let z : k + 1 + i ≡ k + suc i = omega arith in
-    numbered_at (k + 1) names i g e (omega (arith, l)) ∙ ap (λ (j : ℕ). (halves_of (get_or names i g), j)) z
+numbered_from k [] i g e l = absurd (omega (arith, l))
+numbered_from k (m ∷ names) zero g e l = grind arith
+numbered_from k (m ∷ names) (suc i) g e l = grind (arith, numbered_from (k + 1) names i g e (omega (arith, l)))
 
--- the names with their numbers are the entries of the numbers from 0 on
-pub numbered_are : (names : List Guid) (entry : ℕ → Entry) (g : Guid) → ((n : ℕ) → n < length names → (halves_of (get_or names n g), n) ≡ entry n)
-    → numbered 0 names ≡ map entry (range_with_len 0 (length names))
-numbered_are names entry g is =
-    let e : Entry = ((0, 0), 0) in
-    fill_by_all entry (numbered 0 names) (length names) e (numbered_length 0 names) (λ k l.
-    let z : 0 + k ≡ k = omega arith in numbered_at 0 names k g e l ∙ ap (λ (j : ℕ). (halves_of (get_or names k g), j)) z ∙ is k l)
-
-pub numbers_are : (k : ℕ) (names : List Guid) → map (λ (x : Entry). x.1) (numbered k names) ≡ range_with_len k (length names)
-numbers_are k [] = refl
-numbers_are k (m ∷ names) = ap (λ (ks : List ℕ). k ∷ ks) (numbers_are (k + 1) names)
+pub numbered_at : (names : List Guid) (i : ℕ) (g : Guid) (e : Entry) → i < length names
+    → get_or (numbered 0 names) i e ≡ (halves_of (get_or names i g), i)
+numbered_at names i g e l = grind (arith, numbered_from 0 names i g e l)

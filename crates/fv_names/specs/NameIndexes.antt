@@ -7,6 +7,7 @@ use Rattle.std.specs.Ordering.{nat_cmp, ordering_then}
 use Rattle.std.specs.declared.cmp.Ordering.{Ordering}
 use Rattle.fv_base.specs.Words.{bytes_of, IsBytes, field}
 use Rattle.fv_base.specs.declared.guid.Guid.{Guid}
+use Rattle.fv_names.specs.NamedFiles.{NamedFile}
 use Rattle.fv_names.specs.declared.name_index.NameIndex.{NameIndex}
 use Rattle.fv_names.specs.declared.name_order.NameOrder.{NameOrder}
 
@@ -30,6 +31,10 @@ halves_in bytes = (from_le_bytes w64 (field 0 8 bytes), from_le_bytes w64 (field
 
 abbrev pub halves_of : Guid → Halves
 halves_of name = halves_in (bytes_of name)
+
+-- the names of the files, in order
+abbrev pub names_in : List NamedFile → List Guid
+names_in fs = map (λ (f : NamedFile). f.name) fs
 
 -- the entries of these names in order; the first has the number k
 abbrev pub numbered : ℕ → List Guid → List Entry
@@ -64,7 +69,7 @@ abbrev pub numbers_in : List Entry → List ℕ
 numbers_in es = map (λ (e : Entry). e.1) es
 
 -- the numbers are the numbers of the files with these names, in the order of an index of the names
-pub record IsOrder (names : List Guid) (numbers : List ℕ) : Type 0 where
+pub record IsNameOrder (names : List Guid) (numbers : List ℕ) : Type 0 where
   pub entries : List Entry
   pub index : IsIndex names entries
   pub are_numbers : numbers ≡ numbers_in entries

@@ -1,6 +1,6 @@
 -- Files by name and mark: which of them have the same name (PI specification, volume 3, sections 3.2.2 and 3.2.3).
--- VolumeFiles of fv_tree has definitions with the same names, for files as they are stored in their volume.
-use Rattle.std.specs.Prelude.{◌≡◌, ◌&&◌, not, Bool, false, List, [], ◌∷◌, map}
+-- VolumeFiles of fv_tree states the same of files as they are stored in their volume.
+use Rattle.std.specs.Prelude.{◌≡◌, ◌&&◌, not, Bool, false, List, [], ◌∷◌}
 use Rattle.std.specs.Bool.{beq}
 use Rattle.std.specs.List.{list_any}
 use Rattle.std.specs.Str.{bytes_eq}
@@ -11,10 +11,6 @@ use Rattle.fv_base.specs.declared.guid.Guid.{Guid}
 pub record NamedFile : Type 0 where
   pub name : Guid
   pub marked : Bool
-
--- the names of the files, in order
-abbrev pub names_in : List NamedFile → List Guid
-names_in fs = map (λ (f : NamedFile). f.name) fs
 
 -- whether two names are equal
 abbrev pub is_name : Guid → Guid → Bool
@@ -28,10 +24,10 @@ same_name f g = is_name f.name g.name
 abbrev pub is_twin : NamedFile → NamedFile → Bool
 is_twin f g = same_name f g && beq f.marked g.marked
 
--- no two of the files have the same name and the same mark
-abbrev pub NoTwins : List NamedFile → Type 0
-NoTwins [] = Unit {0}
-NoTwins (f ∷ fs) = (list_any (is_twin f) fs ≡ false) × NoTwins fs
+-- no two of the files are twins, by this test of two files
+abbrev pub NoTwins : {F : Type 0} → (F → F → Bool) → List F → Type 0
+NoTwins twin [] = Unit {0}
+NoTwins twin (f ∷ fs) = (list_any (twin f) fs ≡ false) × NoTwins twin fs
 
 -- whether f is marked for update and g is its update: a file with the same name that is not marked
 abbrev pub replaced_by : NamedFile → NamedFile → Bool

@@ -7,9 +7,9 @@ ghost use Rattle.std.specs.List.Sorted.{IsPartitionPoint};
 ghost use Rattle.std.specs.Ordering.{is_lt};
 ghost use Rattle.fv_base.specs.Words.{out_of_memory};
 ghost use Rattle.fv_base.specs.declared.guid.Guid.{Guid};
-ghost use Rattle.fv_names.specs.NamedFiles.{NamedFile, NoTwins, is_twin, names_in, replaced_by};
+ghost use Rattle.fv_names.specs.NamedFiles.{NamedFile, NoTwins, is_twin, replaced_by};
 ghost use Rattle.fv_names.specs.NameIndexes.{NeighboursDiffer, Entry, IsIndex, IsName, IsSixteenBytes, entries_of, entry_cmp};
-ghost use Rattle.fv_names.specs.NameIndexes.{halves_cmp, halves_in, halves_of};
+ghost use Rattle.fv_names.specs.NameIndexes.{halves_cmp, halves_in, halves_of, names_in};
 ghost use Rattle.fv_names.specs.inner.NameOrders.{AreTwins, IsShared, IsTwinAt, mark_at};
 
 use crate::name_order::is_before;
@@ -172,7 +172,7 @@ impl NameIndex {
     pub fn first_twin<F: Named>(&self, files: &[F]) -> usize
         requires { IsIndex (names_in (map F.named files.now)) (entries_of self.now) }
         ensures most { result ≤ length files.now }
-        ensures none { NoTwins (take result (map F.named files.now)) }
+        ensures none { NoTwins is_twin (take result (map F.named files.now)) }
         ensures first { result < length files.now → (d : NamedFile)
             → list_any (is_twin (get_or (map F.named files.now) result d)) (take result (map F.named files.now))
             ≡ true }
@@ -215,7 +215,7 @@ impl NameIndex {
     /// the other has the same name and is not marked. The file must be one of the files of the
     /// index, and no two of these files may be twins.
     pub fn is_replaced<F: Named>(&self, file: &F) -> bool
-        ensures { (fs : List NamedFile) → IsIndex (names_in fs) (entries_of self.now) → NoTwins fs
+        ensures { (fs : List NamedFile) → IsIndex (names_in fs) (entries_of self.now) → NoTwins is_twin fs
             → Contains fs (F.named file.now) → result ≡ list_any (replaced_by (F.named file.now)) fs }
     {
         // No two files are twins, so a file with the same name has the other mark.

@@ -1,11 +1,12 @@
 //! The order of the names of some files.
 
-ghost use Rattle.std.specs.Prelude.{◌≡◌, ◌<◌, length, map, get_or, IfOk, IfErr};
+ghost use Rattle.std.specs.Prelude.{◌≡◌, ◌<◌, ◌&&◌, nat_lt, length, map, get_or, IfOk, IfErr};
 ghost use Rattle.std.specs.List.{position};
 ghost use Rattle.std.specs.Ordering.{is_lt};
 ghost use Rattle.fv_base.specs.Words.{out_of_memory};
+ghost use Rattle.fv_base.specs.declared.guid.Guid.{Guid};
 ghost use Rattle.fv_names.specs.NamedFiles.{is_name};
-ghost use Rattle.fv_names.specs.NameIndexes.{Entry, Halves, IsIndex, IsOrder, entries_of, halves_cmp, numbers_in};
+ghost use Rattle.fv_names.specs.NameIndexes.{Entry, Halves, IsIndex, IsNameOrder, entries_of, halves_cmp, halves_of, numbers_in};
 ghost use Rattle.fv_names.specs.NameIndexes.{numbers_of};
 
 use crate::name_index::{NameIndex, halves};
@@ -28,6 +29,18 @@ pub(crate) fn is_before(one: (u64, u64), other: (u64, u64)) -> bool
     one.0 < other.0 || (one.0 == other.0 && one.1 < other.1)
 }
 
+// Returns whether there is a file with this number, and its name precedes this name, which is given
+// as two numbers.
+fn precedes<F: WithName>(files: &[F], number: u32, key: (u64, u64)) -> bool
+    ensures { (g : Guid) → result ≡ (nat_lt number (length (map F.name_of files.now))
+        && is_lt (halves_cmp (halves_of (get_or (map F.name_of files.now) number g)) key)) }
+{
+    let Some(file) = files.get(number as usize) else {
+        return false;
+    };
+    is_before(halves(file.name()), key)
+}
+
 impl NameOrder {
     /// Returns the numbers of the files in the order of an index.
     ///
@@ -48,40 +61,22 @@ impl NameOrder {
         Ok(NameOrder { numbers })
     }
 
-    // Returns the name of the file at a place, as two numbers. Places are counted from 0 in the
-    // order of the names.
-    fn halves_at<F: WithName>(&self, files: &[F], place: usize) -> (u64, u64)
-        requires order { IsOrder (map F.name_of files.now) (numbers_of self.now) }
-        requires inside { place < length (numbers_of self.now) }
-        ensures { (order : IsOrder (map F.name_of files.now) (numbers_of self.now)) (e : Entry)
-            → result ≡ (get_or order.entries place e).0 }
-    {
-        let number = self.numbers[place];
-        halves(files[number as usize].name())
-    }
-
     /// Returns the number of the first file with this name, or None if no file has it. The order
     /// must be the order of the names of these files. Takes no memory.
     pub fn get<F: WithName>(&self, files: &[F], name: &Guid) -> Option<u32>
-        requires { IsOrder (map F.name_of files.now) (numbers_of self.now) }
+        requires { IsNameOrder (map F.name_of files.now) (numbers_of self.now) }
         ensures { result ≡ position (is_name name.now) (map F.name_of files.now) }
     {
         let key = halves(*name);
-        // The names before the place `first` precede the name, and those from the place `end` on do
-        // not. Files with the same name are in their own order, so the first of them has the name's
-        // first place.
-        let mut first = 0;
-        let mut end = self.numbers.len();
-        while first < end {
-            let middle = first + (end - first) / 2;
-            if is_before(self.halves_at(files, middle), key) {
-                first = middle + 1;
-            } else {
-                end = middle;
-            }
-        }
-        if first < self.numbers.len() && self.halves_at(files, first) == key {
-            return Some(self.numbers[first]);
+        // Files with the same name are in their own order, so the first of them has the name's first
+        // place.
+        let first = self
+            .numbers
+            .as_slice()
+            .partition_point(|number| precedes(files, *number, key));
+        let number = *self.numbers.get(first)?;
+        if halves(files[number as usize].name()) == key {
+            return Some(number);
         }
         None
     }

@@ -105,20 +105,20 @@ starts_one total first fs ss ts p q =
 -- the files before `left` begin at the starts `done`, and e is the edge after these files. Starts of the files in
 -- `left` that follow this edge complete the starts of all files, and if `Firsts` is true of the added starts, it is
 -- true of all starts
-pub record Placed (total first : ℕ) (fs : List PlacementItem) (e : ℕ) (left : List PlacementItem) (done : List ℕ) : Type 0 where
+pub record PlacedUpto (total first : ℕ) (fs : List PlacementItem) (e : ℕ) (left : List PlacementItem) (done : List ℕ) : Type 0 where
   pub follow : (rest : List ℕ) → StartsFollow total e left rest → StartsFollow total first fs (done ++ rest)
   pub firsts : (rest : List ℕ) → Firsts total e left rest → Firsts total first fs (done ++ rest)
 
 pub placed_at : (total first : ℕ) (fs : List PlacementItem) (e i : ℕ) (d : PlacementItem) (r : Reach) (done : List ℕ) (s : ℕ) → i < length fs
-    → total % 8 ≡ 0 → IsBound total (drop (i + 1) fs) r → Placed total first fs e (drop i fs) done
+    → total % 8 ≡ 0 → IsBound total (drop (i + 1) fs) r → PlacedUpto total first fs e (drop i fs) done
     → IsFirstStart total e (get_or fs i d) r s
-    → Placed total first fs (up_to_8 (s + (get_or fs i d).size)) (drop (i + 1) fs) (done ++ s ∷ [])
-placed_at total first fs e i d r done s l h w o v = more (subst (λ xs. Placed total first fs e xs done) (drop_more fs i d l) o)
+    → PlacedUpto total first fs (up_to_8 (s + (get_or fs i d).size)) (drop (i + 1) fs) (done ++ s ∷ [])
+placed_at total first fs e i d r done s l h w o v = more (subst (λ xs. PlacedUpto total first fs e xs done) (drop_more fs i d l) o)
   where
     f : PlacementItem
     f = get_or fs i d
 
-    more : Placed total first fs e (f ∷ drop (i + 1) fs) done → Placed total first fs (up_to_8 (s + f.size)) (drop (i + 1) fs) (done ++ s ∷ [])
+    more : PlacedUpto total first fs e (f ∷ drop (i + 1) fs) done → PlacedUpto total first fs (up_to_8 (s + f.size)) (drop (i + 1) fs) (done ++ s ∷ [])
     more o = record {
       follow = λ rest p. subst (λ xs. StartsFollow total first fs xs) (sym (append_assoc done (s ∷ []) rest))
           (o.follow (s ∷ rest) (stands total e f r s w.greatest v.lawful v.usable, p));
@@ -127,9 +127,9 @@ placed_at total first fs e i d r done s l h w o v = more (subst (λ xs. Placed t
     }
 
 pub placed_end : (total first : ℕ) (fs : List PlacementItem) (e i : ℕ) (done : List ℕ) → length fs ≤ i → first ≤ total
-    → Placed total first fs e (drop i fs) done → IsFirstPlacement total first fs done
+    → PlacedUpto total first fs e (drop i fs) done → IsFirstPlacement total first fs done
 placed_end total first fs e i done l room o =
-    let end = subst (λ xs. Placed total first fs e xs done) (drop_all i fs l) o in
+    let end = subst (λ xs. PlacedUpto total first fs e xs done) (drop_all i fs l) o in
     first_from total first fs done
     (record { room = room; follow = subst (λ xs. StartsFollow total first fs xs) (append-nil done) (end.follow [] tt) })
     (subst (λ xs. Firsts total first fs xs) (append-nil done) (end.firsts [] tt))

@@ -43,9 +43,9 @@ one_deeper : (n : ℕ) (vs : List Inside) → deeper_by n (deeper vs) ≡ deeper
 one_deeper n [] = refl
 one_deeper n (v ∷ vs) = let same : v.depth + 1 + n ≡ v.depth + (n + 1) = omega arith in rw (same, one_deeper n vs)
 
--- the volumes among the rows of a part, or of the parts in it, and among the rows `more` after these rows are the
--- volumes in the part and the volumes among `more`. There are n sections around the part, so its volumes are n levels
--- deeper
+-- each of these laws is about the rows of a part, or of the parts inside it, followed by further rows `more`. The volumes
+-- among all these rows are the volumes in the part, and then the volumes among `more`. The part has n sections around it,
+-- so its volumes are n levels deeper among the rows than in the part
 mutual
   pub volume_volumes : (d n : ℕ) (v : Meaning) (more : List TreeRow)
       → volumes_of (rows_of_volume d n v ++ more) ≡ deeper_by n (volumes_in v) ++ volumes_of more

@@ -12,8 +12,8 @@ use Rattle.fv_tree.specs.Words.{Sectioned, SectionMeanings, NoSections, MoreSect
 use Rattle.fv_tree.specs.Words.{sections_from, sections_list}
 use Rattle.fv_tree.proofs.Laws.{nests_files, nests_content, nests_sections, nests_body, nests_group, nests_nested}
 use Rattle.fv_rows.specs.Words.{NodeMeaning, VolumeNode, FileNode, SectionNode, rows_of_files, rows_of_sections}
-use Rattle.fv_rows.specs.Words.{rows_of_volume, parts_in, nodes_of, nesting_inside, rows_inside, rows_of_nodes, left_in, NestsAt}
-use Rattle.fv_rows.specs.Words.{FitsAt, AreLevels}
+use Rattle.fv_rows.specs.Words.{rows_of_volume, parts_in, nodes_of, nesting_inside, rows_inside, rows_of_nodes, rows_left_in, PartNestsAt}
+use Rattle.fv_rows.specs.Words.{FitsAt, AreRowLevels}
 use Rattle.fv_rows.specs.declared.tree_walk.Level.{Level}
 use Rattle.fv_rows.specs.declared.tree_walk.Parts.{Parts}
 
@@ -47,13 +47,13 @@ inside_rows depth nesting node = refl
 
 -- ---- how deep parts nest
 
-all_nest : {X : Type 0} (P : X → Type 0) (depth : ℕ) (form : X → NodeMeaning) (xs : List X) → ((x : X) → P x → NestsAt depth (form x))
-    → AllByRecursion P xs → AllByRecursion (NestsAt depth) (map form xs)
+all_nest : {X : Type 0} (P : X → Type 0) (depth : ℕ) (form : X → NodeMeaning) (xs : List X) → ((x : X) → P x → PartNestsAt depth (form x))
+    → AllByRecursion P xs → AllByRecursion (PartNestsAt depth) (map form xs)
 all_nest P depth form [] nests all = tt
 all_nest P depth form (x ∷ xs) nests (here, more) = (nests x here, all_nest P depth form xs nests more)
 
 -- the parts in a part nest only as deep as depth d allows, for each d up to the depth right below the part
-pub nest_in : (depth d : ℕ) (node : NodeMeaning) → d ≤ depth + 1 → NestsAt depth node → AllByRecursion (NestsAt d) (parts_in node)
+pub nest_in : (depth d : ℕ) (node : NodeMeaning) → d ≤ depth + 1 → PartNestsAt depth node → AllByRecursion (PartNestsAt d) (parts_in node)
 nest_in depth d (VolumeNode (Volume h files)) low (n, fits, b, is) =
     all_nest _ d FileNode (files_list files) (λ f is. (n, omega (arith, fits, low), is.0, is.1)) (nests_files h files n (b, is))
 nest_in depth d (FileNode (File name kind attributes (Sectioned ss tail))) low (n, fits, f, means) =
@@ -67,26 +67,26 @@ nest_in depth d (SectionNode (Section kind extended (Nested v))) low (n, fits, f
     ((k, omega (arith, fits, less, low), inside.0, inside.1), tt)
 nest_in depth d node low nests = tt
 
-pub inside_nests : (depth : ℕ) (node : NodeMeaning) → NestsAt depth node → AllByRecursion (NestsAt (depth + 1)) (parts_in node)
+pub inside_nests : (depth : ℕ) (node : NodeMeaning) → PartNestsAt depth node → AllByRecursion (PartNestsAt (depth + 1)) (parts_in node)
 inside_nests depth node nests = nest_in depth (depth + 1) node (omega arith) nests
 
 -- ---- the innermost level
 
 -- the rows that are left are the rows of the innermost level, and then the rows of the other levels
 left_more : (depth at : ℕ) (levels : List Level) (l : Level) → at ≡ depth + length levels
-    → left_in depth (levels ++ l ∷ []) ≡ rows_of_nodes at l.nesting l.number (nodes_of l.parts) ++ left_in depth levels
+    → rows_left_in depth (levels ++ l ∷ []) ≡ rows_of_nodes at l.nesting l.number (nodes_of l.parts) ++ rows_left_in depth levels
 left_more depth at [] l is = let same : at ≡ depth = omega (arith, is) in rw (append-nil, same)
 left_more depth at (outer ∷ levels) l is = simp (left_more (depth + 1) at levels l (omega (arith, is)), append_assoc)
 
 -- some levels and a level that fits right below them are levels
-levels_more : (depth at : ℕ) (levels : List Level) (l : Level) → at ≡ depth + length levels → AreLevels depth levels → FitsAt at l
-    → AreLevels depth (levels ++ l ∷ [])
+levels_more : (depth at : ℕ) (levels : List Level) (l : Level) → at ≡ depth + length levels → AreRowLevels depth levels → FitsAt at l
+    → AreRowLevels depth (levels ++ l ∷ [])
 levels_more depth at [] l is are fits = (subst (λ d. FitsAt d l) (omega (arith, is)) fits, tt)
 levels_more depth at (outer ∷ levels) l is (here, more) fits = (here, levels_more (depth + 1) at levels l (omega (arith, is)) more fits)
 
 -- the innermost level fits at its depth, and the other levels fit without it
-pub levels_less : (depth at : ℕ) (levels : List Level) (l : Level) → at ≡ depth + length levels → AreLevels depth (levels ++ l ∷ [])
-    → AreLevels depth levels × FitsAt at l
+pub levels_less : (depth at : ℕ) (levels : List Level) (l : Level) → at ≡ depth + length levels → AreRowLevels depth (levels ++ l ∷ [])
+    → AreRowLevels depth levels × FitsAt at l
 levels_less depth at [] l is (here, none) = (tt, subst (λ d. FitsAt d l) (omega (arith, is)) here)
 levels_less depth at (outer ∷ levels) l is (here, more) =
     let rest = levels_less (depth + 1) at levels l (omega (arith, is)) more in ((here, rest.0), rest.1)
@@ -95,15 +95,15 @@ levels_less depth at (outer ∷ levels) l is (here, more) =
 
 -- `left_more` for all levels of a walk: the first of them is at depth 0
 left_at : (levels : List Level) (l : Level)
-    → left_in 0 (levels ++ l ∷ []) ≡ rows_of_nodes (length levels) l.nesting l.number (nodes_of l.parts) ++ left_in 0 levels
+    → rows_left_in 0 (levels ++ l ∷ []) ≡ rows_of_nodes (length levels) l.nesting l.number (nodes_of l.parts) ++ rows_left_in 0 levels
 left_at levels l = left_more 0 (length levels) levels l (omega arith)
 
 -- an innermost level without parts has no rows
-pub none_left : (levels : List Level) (l : Level) → nodes_of l.parts ≡ [] → left_in 0 (levels ++ l ∷ []) ≡ left_in 0 levels
+pub none_left : (levels : List Level) (l : Level) → nodes_of l.parts ≡ [] → rows_left_in 0 (levels ++ l ∷ []) ≡ rows_left_in 0 levels
 none_left levels l is = rw (left_at levels l, is)
 
 -- every part leaves room for one more level
-pub deep : (depth : ℕ) (node : NodeMeaning) → NestsAt depth node → depth ≤ 26
+pub deep : (depth : ℕ) (node : NodeMeaning) → PartNestsAt depth node → depth ≤ 26
 deep depth (VolumeNode v) nests = omega (arith, nests.1)
 deep depth node nests = omega (arith, nests.1)
 
@@ -113,14 +113,14 @@ nesting_small depth nesting (VolumeNode v) small = omega (arith, small)
 nesting_small depth nesting node small = omega (arith, small)
 
 -- the level without its first part
-abbrev pub rest_of : Level → Parts → Level
-rest_of l rest = record { number = l.number + 1; nesting = l.nesting; parts = rest }
+abbrev pub level_with_rest : Level → Parts → Level
+level_with_rest l rest = record { number = l.number + 1; nesting = l.nesting; parts = rest }
 
 -- `node` is the first part of the innermost level `l`, and `rest` are the parts after it
 module _ (levels : List Level) (l : Level) (node : NodeMeaning) (rest : Parts) (is : nodes_of l.parts ≡ node ∷ nodes_of rest)
-    (are : AreLevels 0 (levels ++ l ∷ [])) where
+    (are : AreRowLevels 0 (levels ++ l ∷ [])) where
   -- the outer levels fit, and the innermost level fits below them
-  apart : AreLevels 0 levels × (AllByRecursion (NestsAt (length levels)) (node ∷ nodes_of rest)
+  apart : AreRowLevels 0 levels × (AllByRecursion (PartNestsAt (length levels)) (node ∷ nodes_of rest)
       × (l.number + length (node ∷ nodes_of rest) < 2 ^ 63) × (l.nesting ≤ length levels))
   apart = rw is at (levels_less 0 (length levels) levels l (omega arith) are)
 
@@ -130,26 +130,26 @@ module _ (levels : List Level) (l : Level) (node : NodeMeaning) (rest : Parts) (
       let room = deep (length levels) node apart.1.0.0 in (room, omega (arith, apart.1.1), omega (arith, room, apart.1.2))
 
   -- the levels also fit without this part
-  pub rest_are : AreLevels 0 (levels ++ rest_of l rest ∷ [])
-  rest_are = levels_more 0 (length levels) levels (rest_of l rest) (omega arith) apart.0 (apart.1.0.1, omega (arith, apart.1.1), apart.1.2)
+  pub rest_are : AreRowLevels 0 (levels ++ level_with_rest l rest ∷ [])
+  rest_are = levels_more 0 (length levels) levels (level_with_rest l rest) (omega arith) apart.0 (apart.1.0.1, omega (arith, apart.1.1), apart.1.2)
 
   -- the first part of the innermost level is the next row
-  pub next_left : left_in 0 (levels ++ l ∷ [])
+  pub next_left : rows_left_in 0 (levels ++ l ∷ [])
       ≡ record { depth = length levels; nesting = l.nesting; number = l.number; node = node }
-      ∷ (rows_of_nodes (length levels + 1) (nesting_inside l.nesting node) 0 (parts_in node) ++ left_in 0 (levels ++ rest_of l rest ∷ []))
-  next_left = rw (left_at levels l, left_at levels (rest_of l rest), is, ← inside_rows _ _ node, append_assoc)
+      ∷ (rows_of_nodes (length levels + 1) (nesting_inside l.nesting node) 0 (parts_in node) ++ rows_left_in 0 (levels ++ level_with_rest l rest ∷ []))
+  next_left = rw (left_at levels l, left_at levels (level_with_rest l rest), is, ← inside_rows _ _ node, append_assoc)
 
   module _ (nesting : ℕ) (parts : Parts) (below : nesting ≡ nesting_inside l.nesting node) (within : nodes_of parts ≡ parts_in node) where
     -- the contents of the first part are one more level, and the rows that are left begin with its row
-    pub inside_left : left_in 0 (levels ++ l ∷ [])
+    pub inside_left : rows_left_in 0 (levels ++ l ∷ [])
         ≡ record { depth = length levels; nesting = l.nesting; number = l.number; node = node }
-        ∷ left_in 0 ((levels ++ rest_of l rest ∷ []) ++ record { number = 0; nesting = nesting; parts = parts } ∷ [])
-    inside_left = rw (left_at (levels ++ rest_of l rest ∷ []) _, length-append levels _, below, within) next_left
+        ∷ rows_left_in 0 ((levels ++ level_with_rest l rest ∷ []) ++ record { number = 0; nesting = nesting; parts = parts } ∷ [])
+    inside_left = rw (left_at (levels ++ level_with_rest l rest ∷ []) _, length-append levels _, below, within) next_left
 
     -- the levels fit with this level
     pub inside_are : length (nodes_of parts) < 2 ^ 63
-        → AreLevels 0 ((levels ++ rest_of l rest ∷ []) ++ record { number = 0; nesting = nesting; parts = parts } ∷ [])
+        → AreRowLevels 0 ((levels ++ level_with_rest l rest ∷ []) ++ record { number = 0; nesting = nesting; parts = parts } ∷ [])
     inside_are few =
         let small = nesting_small (length levels) l.nesting node apart.1.2 in
-        levels_more 0 (length levels + 1) (levels ++ rest_of l rest ∷ []) _ (omega (arith, length-append levels (rest_of l rest ∷ [])))
+        levels_more 0 (length levels + 1) (levels ++ level_with_rest l rest ∷ []) _ (omega (arith, length-append levels (level_with_rest l rest ∷ [])))
         rest_are (rw within (inside_nests (length levels) node apart.1.0.0), omega (arith, few), omega (arith, below, small))

@@ -51,23 +51,23 @@ rows_of_nodes depth nesting number (node ∷ nodes) =
 
 -- the rows that are left in some levels; the first level is at this depth. The last level is the innermost, and its
 -- rows come first
-abbrev pub left_in : ℕ → List Level → List TreeRow
-left_in depth [] = []
-left_in depth (l ∷ levels) = left_in (depth + 1) levels ++ rows_of_nodes depth l.nesting l.number (nodes_of l.parts)
+abbrev pub rows_left_in : ℕ → List Level → List TreeRow
+rows_left_in depth [] = []
+rows_left_in depth (l ∷ levels) = rows_left_in (depth + 1) levels ++ rows_of_nodes depth l.nesting l.number (nodes_of l.parts)
 
 -- groups and volumes in a part at this depth nest only so deep that all rows in the part are at a depth below 27
-abbrev pub NestsAt : ℕ → NodeMeaning → Type 0
-NestsAt depth (VolumeNode v) = (n : ℕ) × (depth + 3 * n ≤ 24) × (b : List ℕ) × Denotes n b v
-NestsAt depth (FileNode f) = (n : ℕ) × (depth + 3 * n ≤ 25) × (form : FileForm) × MeansFile (Stream n) form f
-NestsAt depth (SectionNode s) = (n : ℕ) × (depth + 3 * n ≤ 26) × (f : FrameForm) × MeansSection n f s
+abbrev pub PartNestsAt : ℕ → NodeMeaning → Type 0
+PartNestsAt depth (VolumeNode v) = (n : ℕ) × (depth + 3 * n ≤ 24) × (b : List ℕ) × Denotes n b v
+PartNestsAt depth (FileNode f) = (n : ℕ) × (depth + 3 * n ≤ 25) × (form : FileForm) × MeansFile (Stream n) form f
+PartNestsAt depth (SectionNode s) = (n : ℕ) × (depth + 3 * n ≤ 26) × (f : FrameForm) × MeansSection n f s
 
 -- the parts of a level are at this depth, their numbers are below 2 ^ 63, and the number of sections around them is at
 -- most the depth
 abbrev pub FitsAt : ℕ → Level → Type 0
 FitsAt depth l =
-    AllByRecursion (NestsAt depth) (nodes_of l.parts) × (l.number + length (nodes_of l.parts) < 2 ^ 63) × (l.nesting ≤ depth)
+    AllByRecursion (PartNestsAt depth) (nodes_of l.parts) × (l.number + length (nodes_of l.parts) < 2 ^ 63) × (l.nesting ≤ depth)
 
 -- the first level is at this depth, and each further level is one deeper
-abbrev pub AreLevels : ℕ → List Level → Type 0
-AreLevels depth [] = Unit {0}
-AreLevels depth (l ∷ levels) = FitsAt depth l × AreLevels (depth + 1) levels
+abbrev pub AreRowLevels : ℕ → List Level → Type 0
+AreRowLevels depth [] = Unit {0}
+AreRowLevels depth (l ∷ levels) = FitsAt depth l × AreRowLevels (depth + 1) levels

@@ -3,7 +3,7 @@
 ghost use Rattle.std.specs.Prelude.{◌≡◌, ◌<◌, ◌^◌, [], ◌∷◌, length, IfSome, IfNone};
 ghost use Rattle.std.specs.Iterator.{YieldsFirstBy, item_count};
 ghost use Rattle.fv_rows.specs.TreeRows.{parts_in, tree_rows};
-ghost use Rattle.fv_rows.specs.RowWalks.{part_node, nesting_inside, nodes_of, row_of, rows_inside, rows_of_nodes, NestsAt};
+ghost use Rattle.fv_rows.specs.RowWalks.{part_node, nesting_inside, nodes_of, row_of, rows_inside, rows_of_nodes, PartNestsAt};
 ghost use Rattle.std.specs.List.{AllByRecursion};
 
 use arrayvec::ArrayVec;
@@ -116,7 +116,7 @@ pub fn parts_in<'v, 'a>(part: &Part<'v, 'a>) -> Parts<'v, 'a>
 /// Computes nothing. After the call, a proof knows that groups and volumes in this part, which was
 /// read, nest only so deep that `TreeWalk` has room for a walk over it.
 pub fn known(part: &Part<'_, '_>)
-    ensures { NestsAt 0 (part_node part.now) }
+    ensures { PartNestsAt 0 (part_node part.now) }
 {
     match part {
         Part::Volume(volume) => volume.known(),
@@ -159,17 +159,17 @@ impl<'v, 'a> Model for TreeWalk<'v, 'a> {
 
     ghost coded = { coded_list row_code };
 
-    ghost use Rattle.fv_rows.specs.RowWalks.{AreLevels, left_in};
+    ghost use Rattle.fv_rows.specs.RowWalks.{AreRowLevels, rows_left_in};
 
-    ghost view = { λ w. left_in 0 (w.outer.items ++ w.level ∷ []) };
+    ghost view = { λ w. rows_left_in 0 (w.outer.items ++ w.level ∷ []) };
 
-    ghost invariant = { λ w. AreLevels 0 (w.outer.items ++ w.level ∷ []) };
+    ghost invariant = { λ w. AreRowLevels 0 (w.outer.items ++ w.level ∷ []) };
 }
 
 impl<'v, 'a> TreeWalk<'v, 'a> {
     // Returns a walk over some parts at depth 0, each followed by its contents.
     fn over(parts: Parts<'v, 'a>) -> TreeWalk<'v, 'a>
-        requires nest { AllByRecursion (NestsAt 0) (nodes_of parts) }
+        requires nest { AllByRecursion (PartNestsAt 0) (nodes_of parts) }
         requires few { length (nodes_of parts) < 2 ^ 63 }
         ensures { result ≡ rows_of_nodes 0 0 0 (nodes_of parts.entry) }
     {

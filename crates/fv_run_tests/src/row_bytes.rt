@@ -66,8 +66,9 @@ pub(crate) fn bytes_of(alloc: Global, text: &str) -> Option<Vec<u8>> {
     spelled_bytes(alloc, words.as_str())
 }
 
-/// Returns the bytes that words spell. If the first try fails, tries once more: `tests/program/memory`
-/// refuses only one allocation in a run, so memory does not run out in both tries.
+/// Returns the bytes that words spell. If the first try fails, tries once more:
+/// `tests/program/test_memory.py` refuses only one allocation in a run, so memory does not run out
+/// in both tries.
 pub(crate) fn bytes_in_two_tries(alloc: Global, words: &str) -> Option<Vec<u8>> {
     match bytes_of(alloc, words) {
         None => bytes_of(alloc, words),

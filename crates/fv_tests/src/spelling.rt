@@ -35,8 +35,9 @@ pub(crate) fn spelled_bytes(alloc: Global, text: &str) -> Option<Vec<u8>> {
     Some(bytes)
 }
 
-/// Returns the bytes that a text spells. If the first try fails, tries once more: `tests/program/memory`
-/// refuses only one allocation in a run, so memory does not run out in both tries.
+/// Returns the bytes that a text spells. If the first try fails, tries once more:
+/// `tests/program/test_memory.py` refuses only one allocation in a run, so memory does not run out
+/// in both tries.
 pub(crate) fn spelled_in_two_tries(alloc: Global, text: &str) -> Option<Vec<u8>> {
     match spelled_bytes(alloc, text) {
         None => spelled_bytes(alloc, text),

@@ -11,14 +11,14 @@ use Rattle.fv_file.specs.Words.{CellForm, Valid, Tiles, CellsWithin}
 use Rattle.fv_file.proofs.Laws.{all_within, cell_span}
 use Rattle.fv_head.specs.declared.extent.Extent.{Extent}
 use Rattle.fv_tree.specs.inner.ReadingParts.{IsReadyFile, AllStored}
-use Rattle.fv_tree.specs.Words.{AreFilesOf, Stream, MeansFile, FileForm, files_in, AreCurrent, current_in, end_of, replaced_by, Faulty, FileFault}
+use Rattle.fv_tree.specs.Words.{AreFilesOf, Stream, MeansFile, FileForm, files_in, AreCurrent, current_in, end_of, superseded_by, Faulty, FileFault}
 use Rattle.fv_tree.specs.Words.{BodyFault, OneOf}
 
 -- ---- a property of each file
 
 -- a property of each file is a property of each current file
 pub of_current : (P : FileForm → Type 0) (fs : List FileForm) → AllByRecursion P fs → AllByRecursion P (current_in fs)
-of_current P fs = all_filter (λ f. not (list_any (replaced_by f) fs)) P fs
+of_current P fs = all_filter (λ f. not (list_any (superseded_by f) fs)) P fs
 
 -- the file ends at most `end` bytes after the volume's start, and the lengths of its header and of its data add up to
 -- its size

@@ -48,13 +48,13 @@ pairs_decide : {B : Type 0} (test : B → B → Bool) → ((x y : B) → Decides
     → Decides ((p.0 == q.0) && test p.1 q.1) (p ≡ q)
 pairs_decide {B} test decides p q = grind (arith, common_steps, Decides-like, Decides-and, Decides-eqb) steps 150000
 
-blocks_decide : (ps qs : List (ℕ × ℕ)) → Decides (blocks_eq ps qs) (ps ≡ qs)
+pub blocks_decide : (ps qs : List (ℕ × ℕ)) → Decides (blocks_eq ps qs) (ps ≡ qs)
 blocks_decide ps qs = slice_eq-Decides (pairs_decide (λ (x y : ℕ). x == y) Decides-eqb) ps qs (blocks_eq ps qs) refl
 
 entries_decide : (ps qs : List (ℕ × List ℕ)) → Decides (entries_eq ps qs) (ps ≡ qs)
 entries_decide ps qs = slice_eq-Decides (pairs_decide bytes_eq bytes_eq-Decides) ps qs (entries_eq ps qs) refl
 
-ext_decides : (x y : Option Extension) → Decides (ext_eq x y) (x ≡ y)
+pub ext_decides : (x y : Option Extension) → Decides (ext_eq x y) (x ≡ y)
 ext_decides x y = grind (arith, common_steps, Decides-like, Decides-and, guids_decide, entries_decide, bytes_eq-Decides) steps 150000
 
 head_same : (h g : HeadFields) → IsNoneIf (head_differs h g) (h ≡ g)

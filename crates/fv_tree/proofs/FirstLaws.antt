@@ -110,23 +110,23 @@ first_once n e g b at = volume_once n (stream_once n (section_once n)) e g at b
 
 -- ---- the result of reading bytes as a volume
 
-abbrev ReadsVolume : List ℕ → Result (Meaning × ℕ) Fault → Type 0
-ReadsVolume b r = ReadsOrFails (λ v. Denotes depth_limit (take v.1 b) v.0) (IsFirstOfVolume b) r
+abbrev VolumeIsRead : List ℕ → Result (Meaning × ℕ) Fault → Type 0
+VolumeIsRead b r = ReadsOrFails (λ v. Denotes depth_limit (take v.1 b) v.0) (IsFirstOfVolume b) r
 
 -- if a volume was read, the bytes begin with no other volume
-pub only_answer : (b : List ℕ) (r : Result (Meaning × ℕ) Fault) → ReadsVolume b r → IfOk r (λ v. (v.1 ≡ length_of v.0) × (v.1 ≤ length b))
+pub only_answer : (b : List ℕ) (r : Result (Meaning × ℕ) Fault) → VolumeIsRead b r → IfOk r (λ v. (v.1 ≡ length_of v.0) × (v.1 ≤ length b))
     → IfOk r (λ v. (n : ℕ) (m : Meaning) → n ≤ length b → Denotes depth_limit (take n b) m → (m ≡ v.0) × (n ≡ v.1))
 only_answer b (Ok v) read within = λ n m in_bytes d. one_beginning depth_limit n v.1 b m v.0 in_bytes d within.1 read
 only_answer b (Err g) read within = tt
 
 -- if the bytes have a first fault, the result is this fault, or memory ran out
-pub one_answer : (b : List ℕ) (r : Result (Meaning × ℕ) Fault) → ReadsVolume b r → IfOk r (λ v. (v.1 ≡ length_of v.0) × (v.1 ≤ length b))
+pub one_answer : (b : List ℕ) (r : Result (Meaning × ℕ) Fault) → VolumeIsRead b r → IfOk r (λ v. (v.1 ≡ length_of v.0) × (v.1 ≤ length b))
     → (f : Fault) → IsFirstOfVolume b f → IfOk r (λ v. ⊥) × IfErr r (λ g. g ≢ out_of_memory → g ≡ f)
 one_answer b (Ok v) read within f is = (fault_refuses First depth_limit v.1 f b outermost v.0 within.1 is read, tt)
 one_answer b (Err g) read within f is = (tt, λ ne. first_once depth_limit g f b outermost (read ne) is)
 
 -- if the condition of a fault holds in the bytes, no volume was read
-pub sound_answer : (b : List ℕ) (r : Result (Meaning × ℕ) Fault) → ReadsVolume b r
+pub sound_answer : (b : List ℕ) (r : Result (Meaning × ℕ) Fault) → VolumeIsRead b r
     → IfOk r (λ v. (v.1 ≡ length_of v.0) × (v.1 ≤ length b)) → (f : Fault) → FaultHolds b f → IfOk r (λ v. ⊥)
 sound_answer b (Ok v) read within f bad = fault_refuses Any depth_limit v.1 f b outermost v.0 within.1 bad read
 sound_answer b (Err g) read within f bad = tt

@@ -31,6 +31,8 @@ pub use Rattle.fv_tree.proofs.NamesFaultLaws.{same_name_back}
 pub use Rattle.fv_tree.proofs.FirstLaws.{first_once}
 pub use Rattle.fv_tree.proofs.RefusalLaws.{fault_refuses}
 pub use Rattle.fv_tree.proofs.FaultLaws.{fault_stands}
+-- an input has at most one first fault
+pub use Rattle.fv_tree.proofs.OneFirstLaws.{first_of_input}
 -- bytes either begin with a volume or have a first fault, and an input either is a volume or has a first fault
 pub use Rattle.fv_tree.proofs.DecidedLaws.{volume_decided, input_decided}
 -- a first fault lies within the bytes or at their end, and at most 8 levels deep

@@ -20,6 +20,7 @@ pub mod MeaningLaws
 pub mod NameLaws
 pub mod NamedLaws
 pub mod NamesFaultLaws
+pub mod OneFirstLaws
 pub mod RefusalLaws
 pub mod SectionReadLaws
 pub mod SectionShapeLaws
@@ -28,6 +29,7 @@ pub mod SizeLaws
 pub mod SmallCellLaws
 pub mod StreamFrameLaws
 pub mod StreamWalkLaws
+pub mod TurnedDifferenceLaws
 pub mod TwinLaws
 pub mod UnfixedInputLaws
 pub mod VolumeCellLaws

@@ -9,13 +9,12 @@ use Rattle.std.proofs.lemmas.List.{take-map}
 use Rattle.std.proofs.lemmas.List.Folds.{find_at}
 use Rattle.fv_base.specs.declared.guid.Guid.{Guid}
 use Rattle.fv_file.specs.declared.state.FileState.TheVariants as states
-use Rattle.fv_names.specs.Words.{NamedFile, names_in, is_name, NeighboursDiffer, Entry, IsIndex}
+use Rattle.fv_names.specs.Words.{NamedFile, names_in, is_name, is_twin, NoTwins, replaced_by, NeighboursDiffer, Entry, IsIndex}
 use Rattle.fv_names.proofs.Laws.{apart_twins, no_entry, no_named, none_replaced}
-use Rattle.fv_tree.specs.Words.{MeansFile, Pairwise, StreamRelation, FileForm, NoTwins, current_in, is_twin, replaced_by, is_named, file_form}
+use Rattle.fv_tree.specs.Words.{MeansFile, Pairwise, StreamRelation, FileForm, NoStoredTwins, current_in, is_stored_twin, superseded_by, is_named, file_form}
 use Rattle.fv_tree.specs.Words.{FileMeaning, File, file_name_of}
 use Rattle.fv_tree.specs.declared.volume_files.LocatedFile.{LocatedFile}
 use Rattle.fv_tree.specs.inner.NameForms.{named_file}
-use Rattle.fv_names.specs.Words as names
 
 -- the value that a loop over files reads after the last file
 abbrev pub no_file : LocatedFile
@@ -88,23 +87,23 @@ module _ (b : List ℕ) where
 
   -- a file has a twin among some files exactly if its name and mark have a twin among the names and marks of the files
   twins_any : (s : LocatedFile) (ss : List LocatedFile)
-      → list_any (is_twin (file_form b s)) (map (file_form b) ss) ≡ list_any (names.is_twin (named_file s)) (map named_file ss)
-  twins_any s ss = same_any (is_twin (file_form b s)) (names.is_twin (named_file s)) (λ x. refl) ss
+      → list_any (is_stored_twin (file_form b s)) (map (file_form b) ss) ≡ list_any (is_twin (named_file s)) (map named_file ss)
+  twins_any s ss = same_any (is_stored_twin (file_form b s)) (is_twin (named_file s)) (λ x. refl) ss
 
   -- if the names and marks of the files have no twins, the files have none
-  pub twins_from : (ss : List LocatedFile) → names.NoTwins (map named_file ss) → NoTwins (map (file_form b) ss)
+  pub twins_from : (ss : List LocatedFile) → NoTwins is_twin (map named_file ss) → NoStoredTwins (map (file_form b) ss)
   twins_from [] h = tt
   twins_from (s ∷ ss) h = (twins_any s ss ∙ h.0, twins_from ss h.1)
 
   -- the same is true of the first n files
-  pub front_twins : (n : ℕ) (ss : List LocatedFile) → names.NoTwins (take n (map named_file ss)) → NoTwins (take n (map (file_form b) ss))
+  pub front_twins : (n : ℕ) (ss : List LocatedFile) → NoTwins is_twin (take n (map named_file ss)) → NoStoredTwins (take n (map (file_form b) ss))
   front_twins n ss h = rw (take-map (file_form b) n ss) (twins_from (take n ss) (rw (take-map named_file n ss) at h))
 
   -- if the name and mark of the next file have a twin among the names and marks of the first n files, the next file has
   -- a twin among the first n files
   pub twin_after : (n : ℕ) (ss : List LocatedFile) → n < length ss
-      → list_any (names.is_twin (get_or (map named_file ss) n no_named)) (take n (map named_file ss)) ≡ true
-      → list_any (is_twin (file_form b (get_or ss n no_file))) (take n (map (file_form b) ss)) ≡ true
+      → list_any (is_twin (get_or (map named_file ss) n no_named)) (take n (map named_file ss)) ≡ true
+      → list_any (is_stored_twin (file_form b (get_or ss n no_file))) (take n (map (file_form b) ss)) ≡ true
   twin_after n ss l h =
       let named = rw (take-map named_file n ss, get_or-map named_file ss n no_file no_named l) at h in
       rw (take-map (file_form b) n ss, twins_any (get_or ss n no_file) (take n ss)) named
@@ -113,20 +112,20 @@ module _ (b : List ℕ) where
 
   -- the files that no other file replaces are the current files
   pub kept_current : (ss : List LocatedFile)
-      → map (file_form b) (filter (λ s. not (list_any (names.replaced_by (named_file s)) (map named_file ss))) ss)
+      → map (file_form b) (filter (λ s. not (list_any (replaced_by (named_file s)) (map named_file ss))) ss)
       ≡ current_in (map (file_form b) ss)
   kept_current ss =
-      kept_noted (file_form b) (λ s. list_any (names.replaced_by (named_file s)) (map named_file ss))
-      (λ f. list_any (replaced_by f) (map (file_form b) ss)) ss
-      (λ i s l. sym (same_any (replaced_by (file_form b (get_or ss i s))) (names.replaced_by (named_file (get_or ss i s))) (λ x. refl) ss))
+      kept_noted (file_form b) (λ s. list_any (replaced_by (named_file s)) (map named_file ss))
+      (λ f. list_any (superseded_by f) (map (file_form b) ss)) ss
+      (λ i s l. sym (same_any (superseded_by (file_form b (get_or ss i s))) (replaced_by (named_file (get_or ss i s))) (λ x. refl) ss))
 
   module _ (ss : List LocatedFile) (es : List Entry) (index : IsIndex (names_in (map named_file ss)) es) (apart : NeighboursDiffer es) where
     -- files with different names have no twins
-    pub without_twins : NoTwins (map (file_form b) ss)
+    pub without_twins : NoStoredTwins (map (file_form b) ss)
     without_twins = twins_from ss (apart_twins (map named_file ss) es index no_named no_entry apart)
 
     -- and no file is replaced, so all files are current
     pub all_current : current_in (map (file_form b) ss) ≡ map (file_form b) ss
     all_current =
-        sym (kept_current ss) ∙ ap (map (file_form b)) (all_kept (λ f. list_any (names.replaced_by f) (map named_file ss)) ss
+        sym (kept_current ss) ∙ ap (map (file_form b)) (all_kept (λ f. list_any (replaced_by f) (map named_file ss)) ss
         (none_replaced (map named_file ss) es index no_named no_entry apart))

@@ -17,7 +17,7 @@ use Rattle.fv_head.proofs.Laws.{front_holds}
 use Rattle.fv_section.specs.Words.{FrameForm}
 use Rattle.fv_section.proofs.Laws.{one_split}
 use Rattle.fv_tree.specs.Words.{AreFilesOf, MeansFile, MeansSection, Stream, Denotes, FileFault, StoredFault, Moved, InSection, InStream, InVolume}
-use Rattle.fv_tree.specs.Words.{data_at, Meaning, FileMeaning, SectionMeaning, files_of, head_of, FileForm, NoTwins, TopAtEnd, files_in, current_in}
+use Rattle.fv_tree.specs.Words.{data_at, Meaning, FileMeaning, SectionMeaning, files_of, head_of, FileForm, NoStoredTwins, TopAtEnd, files_in, current_in}
 use Rattle.fv_tree.proofs.ListPairs.{one_of_none}
 use Rattle.fv_tree.proofs.NamesFaultLaws.{names_wrong}
 use Rattle.fv_tree.proofs.SectionShapeLaws.{group_only, opened_only, stream_bad}
@@ -46,7 +46,7 @@ module _ (which : Which) where
   -- the cells are twins, or a volume top file is not at the end
   pub stored_by : (x : Extent) (volume : List ℕ) (f : Fault) (cells : List CellForm) → StoredFault which x volume f
       → Tiles x.file_system x.polarity x.first cells (drop x.first volume)
-      → NoTwins (files_in cells) × TopAtEnd x.length (current_in (files_in cells)) → ⊥
+      → NoStoredTwins (files_in cells) × TopAtEnd x.length (current_in (files_in cells)) → ⊥
   stored_by x volume f cells (inl bad) tiles right =
       cellular.none_after which x.file_system x.polarity x.first (drop x.first volume) f cells bad tiles
   stored_by x volume f cells (inr (others, tiles', names)) tiles right =

@@ -56,7 +56,7 @@ pub record IsLeaf (f : FrameForm) : Type 0 where
   pub no_group : f.kind ≢ group_kind
   pub not_opened : f.kind ≡ volume_kind → Opens f.body → ⊥
 
-pub record IsOpened (f : FrameForm) : Type 0 where
+pub record IsOpenedFrame (f : FrameForm) : Type 0 where
   pub kind : f.kind ≡ volume_kind
   pub opens : Opens f.body
 
@@ -71,7 +71,7 @@ by_tests g v shape is = grind (arith, common_steps)
 pub group_shape : (f : FrameForm) → shape_of f ≡ shapes.Group → f.kind ≡ group_kind
 group_shape f is = (Decides-eqb _ _).0 ((by_tests _ _ _ is).0 refl)
 
-pub volume_shape : (f : FrameForm) → shape_of f ≡ shapes.Volume → IsOpened f
+pub volume_shape : (f : FrameForm) → shape_of f ≡ shapes.Volume → IsOpenedFrame f
 volume_shape f is = grind (arith, common_steps, by_tests _ _ _ is, opens_decides f.body)
 
 -- the type of a group is not the type of a volume
@@ -92,7 +92,7 @@ pub group_only : (S : StreamRelation) (V : VolumeRelation) (f : FrameForm) → f
 group_only S V f g none s section_over = grind (arith, common_steps, group_is_no_volume) steps 150000
 
 -- an opened body that is not a volume has no meaning
-pub opened_only : (S : StreamRelation) (V : VolumeRelation) (f : FrameForm) → IsOpened f → ((v : Meaning) → V f.body v → ⊥)
+pub opened_only : (S : StreamRelation) (V : VolumeRelation) (f : FrameForm) → IsOpenedFrame f → ((v : Meaning) → V f.body v → ⊥)
     → (s : SectionMeaning) → SectionOver S V f s → ⊥
 opened_only S V f o none s section_over = grind (arith, common_steps, group_is_no_volume) steps 150000
 
@@ -113,15 +113,15 @@ pub group_first : (n k : ℕ) (f : FrameForm) (x : Fault) (at inside : Place) �
     → inside.offset ≡ at.offset + body_place f → inside.depth ≡ at.depth + 1 → InStream First k x f.body inside → InSection First n x f at
 group_first n k f x at inside e g p q h = rw (← suc_is n k e) (inl (g, rw (one_place inside (body_at at f) p q) at h))
 
-pub nested_found : (n k : ℕ) (f : FrameForm) (v : Meaning) → n ≡ k + 1 → IsOpened f → Denotes k f.body v
+pub nested_found : (n k : ℕ) (f : FrameForm) (v : Meaning) → n ≡ k + 1 → IsOpenedFrame f → Denotes k f.body v
     → MeansSection n f (Section f.kind f.extended (Nested v))
 nested_found n k f v e o d = rw (← suc_is n k e) (refl, refl, (o.kind, o.opens, d))
 
-pub nested_first : (n k : ℕ) (f : FrameForm) (x : Fault) (at inside : Place) → n ≡ k + 1 → IsOpened f
+pub nested_first : (n k : ℕ) (f : FrameForm) (x : Fault) (at inside : Place) → n ≡ k + 1 → IsOpenedFrame f
     → inside.offset ≡ at.offset + body_place f → inside.depth ≡ at.depth + 1 → InVolume First k x f.body inside → InSection First n x f at
 nested_first n k f x at inside e o p q h = rw (← suc_is n k e) (inr (o.kind, o.opens, rw (one_place inside (body_at at f) p q) at h))
 
-pub deep_fault : (n : ℕ) (f : FrameForm) (x : Fault) (at : Place) → n ≡ 0 → (f.kind ≡ group_kind) ⊎ IsOpened f
+pub deep_fault : (n : ℕ) (f : FrameForm) (x : Fault) (at : Place) → n ≡ 0 → (f.kind ≡ group_kind) ⊎ IsOpenedFrame f
     → x ≡ moved_fault at.offset at.depth (outer_fault kinds.Depth f.offset) → InSection First n x f at
 deep_fault n f x at e kind is = grind (arith, common_steps)
 

@@ -17,7 +17,7 @@ use Rattle.fv_tree.proofs.SectionReadLaws.{each_push, stream_read}
 module _ (n : ℕ) (b : List ℕ) (tail : ℕ) where
   -- the frames `left` of the stream b are left: the frames before them have meanings, and the volumes in these frames
   -- were added to the list `old`, which became `now`
-  pub record Walked (left : List FrameForm) (old now : List Meaning) : Type 0 where
+  pub record StreamWalked (left : List FrameForm) (old now : List Meaning) : Type 0 where
     pub frames : List FrameForm
     pub sections : List SectionMeaning
     pub split : Splits (frames ++ left) tail b
@@ -26,7 +26,7 @@ module _ (n : ℕ) (b : List ℕ) (tail : ℕ) where
     pub joined : now ≡ old ++ added
     pub yields : EachYields (section_by n) frames added sections
 
-  pub walk_begun : (fs : List FrameForm) (old : List Meaning) → Splits fs tail b → Walked fs old old
+  pub walk_begun : (fs : List FrameForm) (old : List Meaning) → Splits fs tail b → StreamWalked fs old old
   walk_begun fs old split = record {
     frames = [];
     sections = [];
@@ -38,7 +38,7 @@ module _ (n : ℕ) (b : List ℕ) (tail : ℕ) where
   }
 
   -- f is the first frame that is left
-  module _ (left more : List FrameForm) (f : FrameForm) (old now : List Meaning) (w : Walked left old now) (e : left ≡ f ∷ more) where
+  module _ (left more : List FrameForm) (f : FrameForm) (old now : List Meaning) (w : StreamWalked left old now) (e : left ≡ f ∷ more) where
     whole : Splits (w.frames ++ f ∷ more) tail b
     whole = rw e at w.split
 
@@ -47,7 +47,7 @@ module _ (n : ℕ) (b : List ℕ) (tail : ℕ) where
     walk_ready small short = grind (arith, common_steps, in_middle, split_stands, whole, stands_within) steps 150000
 
     -- if f is read, the walk goes on with the frames after it
-    pub walk_more : (new : List Meaning) → SectionRead n f now new → Walked more old new
+    pub walk_more : (new : List Meaning) → SectionRead n f now new → StreamWalked more old new
     walk_more new read = record {
       frames = w.frames ++ f ∷ [];
       sections = w.sections ++ read.section ∷ [];
@@ -63,6 +63,6 @@ module _ (n : ℕ) (b : List ℕ) (tail : ℕ) where
     walk_first x place first = inr (w.frames ++ f ∷ more, tail, whole, (w.frames, f, more, refl, (w.sections, w.means), first))
 
   -- if no frame is left, the stream is read
-  pub walk_found : (left : List FrameForm) (old now : List Meaning) → IsBytes b → Walked left old now → left ≡ [] → StreamRead n b old now
+  pub walk_found : (left : List FrameForm) (old now : List Meaning) → IsBytes b → StreamWalked left old now → left ≡ [] → StreamRead n b old now
   walk_found left old now small w e =
       stream_read n b tail w.frames w.sections old now w.added small (rw (e, append-nil w.frames) at w.split) w.means w.joined w.yields

@@ -4,7 +4,7 @@ use Rattle.std.specs.List.{find}
 use Rattle.std.specs.Str.{bytes_eq}
 use Rattle.fv_base.specs.Words.{bytes_of}
 use Rattle.fv_base.specs.declared.guid.Guid.{Guid}
-use Rattle.fv_names.specs.Words.{IsOrder, numbers_of}
+use Rattle.fv_names.specs.Words.{IsNameOrder, numbers_of}
 use Rattle.fv_names.specs.declared.name_order.NameOrder.{NameOrder}
 use Rattle.fv_tree.specs.Meaning.{FileMeaning, file_name_of}
 
@@ -18,4 +18,4 @@ file_named name fs = find (is_named name) fs
 
 -- `order` is the order of the names of these files
 abbrev pub HasOrder : NameOrder → List FileMeaning → Type 0
-HasOrder order fs = IsOrder (map file_name_of fs) (numbers_of order)
+HasOrder order fs = IsNameOrder (map file_name_of fs) (numbers_of order)

@@ -17,7 +17,7 @@ use Rattle.fv_head.specs.declared.extent.Extent.{Extent}
 use Rattle.fv_section.specs.Words.{FrameFault, FrameForm, Splits, section_header_len}
 use Rattle.fv_tree.specs.Denotes.{group_kind, volume_kind, Opens, holds_sections, Pairwise, MeansFile, MeansSection}
 use Rattle.fv_tree.specs.Denotes.{Stream}
-use Rattle.fv_tree.specs.VolumeFiles.{FileForm, files_in, is_twin, NoTwins, current_in, is_top, end_of, TopAtEnd}
+use Rattle.fv_tree.specs.VolumeFiles.{FileForm, files_in, is_stored_twin, NoStoredTwins, current_in, is_top, end_of, TopAtEnd}
 
 -- ---- places
 
@@ -44,8 +44,8 @@ body_at at f = record { offset = at.offset + body_place f; depth = at.depth + 1 
 abbrev pub data_at : Place → FileForm → Place
 data_at at f = record { offset = at.offset + data_place f; depth = at.depth }
 
--- a predicate on a fault and on bytes that begin at a place; and a predicate on a fault and on a frame of a stream that
--- begins at a place
+-- the type of statements about a fault, some bytes, and the place where the bytes begin (`Faulty`); and the type of
+-- statements about a fault, a frame, and the place where the frame's stream begins (`FrameFaulty`)
 abbrev pub Faulty : Type 1
 Faulty = Fault → List ℕ → Place → Type 0
 
@@ -69,8 +69,8 @@ OneOf {A} {B} which R fault xs =
 -- two of the files preceding it are twins
 abbrev pub HasTwin : Which → FileForm → List FileForm → Type 0
 HasTwin which f fs =
-    (before : List FileForm) × (after : List FileForm) × (fs ≡ before ++ (f ∷ after)) × IfFirst which (NoTwins before)
-    × (list_any (is_twin f) before ≡ true)
+    (before : List FileForm) × (after : List FileForm) × (fs ≡ before ++ (f ∷ after)) × IfFirst which (NoStoredTwins before)
+    × (list_any (is_stored_twin f) before ≡ true)
 
 -- f is a volume top file that is not the last of the files, or does not end where the volume ends
 abbrev pub TopElsewhere : ℕ → FileForm → List FileForm → Type 0
@@ -78,12 +78,13 @@ TopElsewhere length f fs =
     (before : List FileForm) × (after : List FileForm) × (fs ≡ before ++ (f ∷ after)) × (is_top f ≡ true)
     × (after ≡ [] → end_of f ≡ length → ⊥)
 
--- a fault of the valid files in a volume of this length: at the later of two twins; or at a volume top file that is not
--- at the end, which is the first fault only if there are no twins
+-- e is a fault of the names of the valid files in a volume of this length. Either e is DuplicateName, at a file that has
+-- a twin among the files preceding it; or e is TopFile, at a volume top file that is not at the end. If `which` is
+-- `First`, e is TopFile only if no two of the files are twins
 abbrev pub NamesFault : Which → ℕ → List FileForm → Fault → Type 0
 NamesFault which length fs e =
     ((f : FileForm) × HasTwin which f fs × (e ≡ outer_fault kinds.DuplicateName f.offset))
-    ⊎ (IfFirst which (NoTwins fs)
+    ⊎ (IfFirst which (NoStoredTwins fs)
     × (f : FileForm) × TopElsewhere length f (current_in fs) × (e ≡ outer_fault kinds.TopFile f.offset))
 
 -- e is a fault of a cell in a volume's body, or a fault of the files in the cells (`NamesFault`). Faults in the
@@ -111,7 +112,7 @@ abbrev pub BodyFault : Which → ℕ → Faulty → Extent → Faulty
 BodyFault which n in_stream x e volume at =
     Moved at (StoredFault which x volume) e
     ⊎ ((cells : List CellForm) × Tiles x.file_system x.polarity x.first cells (drop x.first volume)
-    × IfFirst which (NoTwins (files_in cells) × TopAtEnd x.length (current_in (files_in cells)))
+    × IfFirst which (NoStoredTwins (files_in cells) × TopAtEnd x.length (current_in (files_in cells)))
     × OneOf which (MeansFile (Stream n)) (λ f. FileFault in_stream e f at) (current_in (files_in cells)))
 
 -- a fault of a volume: a check of its header fails, or the bytes begin with a volume header and the body has a fault

@@ -5,8 +5,8 @@ pub use Rattle.fv_tree.specs.Meaning.{ContentMeaning, Plain, Sectioned, SectionM
 pub use Rattle.fv_tree.specs.Meaning.{SectionMeaning, Section, BodyMeaning, Leaf, Group, Nested, files_list}
 pub use Rattle.fv_tree.specs.Meaning.{sections_list, head_of, files_of, length_of, file_name_of, attributes_of}
 pub use Rattle.fv_tree.specs.Meaning.{content_of, body_len, sections_end, section_len, content_len, data_len_of}
-pub use Rattle.fv_tree.specs.VolumeFiles.{FileForm, files_in, is_marked, same_name, is_twin, NoTwins, replaced_by}
-pub use Rattle.fv_tree.specs.VolumeFiles.{current_in, top_name, is_top, end_of, TopAtEnd, AreCurrent}
+pub use Rattle.fv_tree.specs.VolumeFiles.{FileForm, files_in, is_marked, named_form, is_stored_twin, NoStoredTwins}
+pub use Rattle.fv_tree.specs.VolumeFiles.{superseded_by, current_in, top_name, is_top, end_of, TopAtEnd, AreCurrent}
 pub use Rattle.fv_tree.specs.Denotes.{group_kind, volume_kind, Opens, holds_sections, Pairwise, SectionRelation}
 pub use Rattle.fv_tree.specs.Denotes.{StreamRelation, VolumeRelation, StreamOver, MeansContent, MeansFile, VolumeOver}
 pub use Rattle.fv_tree.specs.Denotes.{MeansBody, SectionOver, MeansSection, Stream, Denotes, Accepted, IsMeaning}

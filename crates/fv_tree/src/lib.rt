@@ -13,6 +13,7 @@
 mod difference;
 mod fault_place;
 mod fixed_marks;
+pub mod further_laws;
 mod head_difference;
 mod lookup;
 mod read;

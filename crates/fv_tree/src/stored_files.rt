@@ -4,7 +4,7 @@ ghost use Rattle.std.specs.Prelude.{◌≡◌, ◌≢◌, ◌≤◌, ◌<◌, �
 ghost use Rattle.std.specs.List.{AllByRecursion};
 ghost use Rattle.fv_base.specs.Words.{First, out_of_memory, volume_limit};
 ghost use Rattle.fv_head.specs.Words.{BeginsWithHeader};
-ghost use Rattle.fv_names.specs.Words.{names_in, IsOrder, numbers_of};
+ghost use Rattle.fv_names.specs.Words.{names_in, IsNameOrder, numbers_of};
 ghost use Rattle.fv_tree.specs.FirstFault.{Moved, StoredFault};
 ghost use Rattle.fv_tree.specs.LocatedFiles.{AreFilesOf, file_form, BeginWithFiles, HasDataIn, IsFirstOfFiles};
 ghost use Rattle.fv_tree.specs.VolumeFiles.{FileForm};
@@ -35,7 +35,7 @@ pub(crate) fn files_in_body(
     ensures read { ReadsOrFails (λ r. AreFilesOf extent volume.now (map (file_form volume.now) r.0.items))
         (Moved place (StoredFault First extent volume.now)) result }
     ensures stored { IfOk result (λ r. AllStored place.offset (map (file_form volume.now) r.0.items)) }
-    ensures order { IfOk result (λ r. IsOrder (names_in (map named_file r.0.items)) (numbers_of r.1)) }
+    ensures order { IfOk result (λ r. IsNameOrder (names_in (map named_file r.0.items)) (numbers_of r.1)) }
 {
     let files = match files_in(alloc, volume, &extent) {
         Ok(files) => files,

@@ -6,8 +6,7 @@ ghost use Rattle.fv_base.specs.Words.{First, outer_fault, out_of_memory, volume_
 ghost use Rattle.fv_tree.specs.FirstFault.{HasTwin, TopElsewhere, NamesFault};
 ghost use Rattle.fv_tree.specs.VolumeFiles.{FileForm, TopAtEnd, AreCurrent, files_in, current_in, is_top, end_of};
 ghost use Rattle.fv_tree.specs.inner.NameForms.{named_file};
-ghost use Rattle.fv_names.specs.Words.{names_in, IsIndex, entries_of};
-ghost use Rattle.fv_names.specs.Words as names;
+ghost use Rattle.fv_names.specs.Words.{NoTwins, is_twin, names_in, IsIndex, entries_of};
 ghost use Rattle.fv_tree.specs.LocatedFiles.{bare_form, file_form};
 ghost use Rattle.fv_tree.specs.inner.ReadingParts.{IsSmallCell, bare};
 ghost use Rattle.fv_file.specs.Words as cellular;
@@ -143,7 +142,7 @@ pub(crate) fn files_in(
 // is marked for update. The fault is DuplicateName at the first file that has an earlier twin.
 fn check_twins(files: &[LocatedFile], index: &NameIndex) -> Result<(), Fault>
     requires { IsIndex (names_in (map named_file files.now)) (entries_of index.now) }
-    ensures found { OnOk result (names.NoTwins (map named_file files.now)) }
+    ensures found { OnOk result (NoTwins is_twin (map named_file files.now)) }
     ensures first { IfErr result (λ e. (b : List ℕ) → (f : FileForm) × HasTwin First f (map (file_form b) files.now)
         × (e ≡ outer_fault FaultKind.DuplicateName f.offset)) }
 {
@@ -158,7 +157,7 @@ fn check_twins(files: &[LocatedFile], index: &NameIndex) -> Result<(), Fault>
 // Keeps only the files that no other file replaces.
 fn keep_current(files: &mut Vec<LocatedFile>, index: &NameIndex)
     requires index { IsIndex (names_in (map named_file files.old.items)) (entries_of index.now) }
-    requires no_twins { names.NoTwins (map named_file files.old.items) }
+    requires no_twins { NoTwins is_twin (map named_file files.old.items) }
     ensures { (b : List ℕ) → map (file_form b) files.new.items ≡ current_in (map (file_form b) files.old.items) }
 {
     files.retain(|file| !index.is_replaced(file));

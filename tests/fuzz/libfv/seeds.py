@@ -1,7 +1,7 @@
 #!/usr/bin/env python3
 # SPDX-License-Identifier: BSD-2-Clause-Patent
 """seeds.py FOLDER: writes the first inputs of the fuzzer, always the same, each after the parameters that harness.h
-describes. FOLDER/seeds gets volumes, flash images, hand-off lists and expressions as tests/fuzz/fuzz.py makes them.
+describes. FOLDER/seeds gets volumes, flash images, hand-off lists and expressions as tests/fuzz/cases.py makes them.
 FOLDER/few gets an empty volume and an expression of two ops. The mutator itself has to reach all other inputs from
 these two."""
 
@@ -14,8 +14,9 @@ from collections.abc import Iterator
 from dataclasses import dataclass
 from pathlib import Path
 
-from tests.fuzz.fuzz import Maker, make_case
-from tests.fuzz.hostile import volume
+from tests.fuzz.cases import make_case
+from tests.fuzz.maker import Maker
+from tests.making import FFS3, volume
 
 AS_VOLUME, AS_EXPRESSION, AS_HAND_OFF_LIST, AS_PAIR, AS_IMAGE_AND_VOLUME = 0, 4, 5, 6, 7  # as in harness.h
 MODES = {"volume": AS_VOLUME, "image": AS_IMAGE_AND_VOLUME, "list": AS_HAND_OFF_LIST}
@@ -55,7 +56,7 @@ def seeds() -> Iterator[Seed]:
 def few() -> Iterator[Seed]:
     """Returns the inputs of FOLDER/few."""
     none_refused = bytes([0, 0, 0, 0, 255, 255, 255])
-    empty = volume(b"\xff" * 120)
+    empty = volume([], 192, system=FFS3)
     yield Seed("volume", bytes([AS_VOLUME]) + none_refused + empty)
     yield Seed("image", bytes([AS_IMAGE_AND_VOLUME]) + none_refused + empty)
     yield Seed("expression", bytes([AS_EXPRESSION]) + none_refused + b"\x06\x08")

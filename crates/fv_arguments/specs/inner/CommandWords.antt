@@ -27,18 +27,18 @@ app_named name =
     else (if bytes_eq name (codes "scan") then one_input_app else volume_app))))))
 
 -- the parser accepted the arguments of a command, and m holds the values that it found in them
-pub record IsRead (app : App) (rest : List (List ℕ)) (m : ArgMatches) : Type 0 where
+pub record IsParsed (app : App) (rest : List (List ℕ)) (m : ArgMatches) : Type 0 where
   pub rows : rows_of (found_of m) ≡ rows_in app rest
   pub taken : faults_in app rest ≡ []
 
 -- the result is a value for which P holds, or an error. The error is Words only if P holds for no value
-abbrev pub ReadsOrFails : {X : Type 0} → (X → Type 0) → Result X WordFault → Type 0
-ReadsOrFails P (Ok x) = P x
-ReadsOrFails {X} P (Err f) = f ≡ Words → (x : X) → P x → ⊥
+abbrev pub ParsesOrFails : {X : Type 0} → (X → Type 0) → Result X WordFault → Type 0
+ParsesOrFails P (Ok x) = P x
+ParsesOrFails {X} P (Err f) = f ≡ Words → (x : X) → P x → ⊥
 
 -- if the parser found m in the arguments, the result is the command that these arguments ask for, or an error. The
 -- error is Words only if the arguments are not right
 abbrev pub AsksOrFails : List ℕ → ArgMatches → Result Command WordFault → Type 0
 AsksOrFails name m (Ok command) =
-    (rest : List (List ℕ)) → IsRead (app_named name) rest m → (name ≡ command_name command) × HasTexts rest command
-AsksOrFails name m (Err f) = f ≡ Words → (rest : List (List ℕ)) → IsRead (app_named name) rest m → AreRightFor name rest → ⊥
+    (rest : List (List ℕ)) → IsParsed (app_named name) rest m → (name ≡ command_name command) × HasTexts rest command
+AsksOrFails name m (Err f) = f ≡ Words → (rest : List (List ℕ)) → IsParsed (app_named name) rest m → AreRightFor name rest → ⊥

@@ -6,13 +6,13 @@ use Rattle.fv_tree.specs.Words.{Accepted, BeginWithFiles, Meaning, Pairwise, Sec
 use Rattle.fv_tree.specs.Words.{length_of, section_is_extended}
 use Rattle.fv_tree.specs.declared.volume_files.LocatedFile.{LocatedFile}
 use Rattle.fv_rows.specs.Words.{NodeMeaning, VolumeNode, FileNode, SectionNode, TreeRow as Row, rows_of_nodes}
-use Rattle.fv_c.specs.TreeParts.{TreeRow, no_parent, parent_of, with_parents}
+use Rattle.fv_c.specs.TreeParts.{NodeRow, no_parent, parent_of, with_parents}
 use Rattle.fv_c.specs.ReportedTree.{IsNodeIn, bytes_at, reported_node}
 use Rattle.fv_c.specs.declared.tree.FvNode.{FvNode}
 use Rattle.fv_c.specs.declared.tree.Holder.{Holder}
 
 -- the first row of a tree: the volume that the whole input is
-abbrev pub whole_row : Meaning → TreeRow
+abbrev pub whole_row : Meaning → NodeRow
 whole_row m = record { parent = no_parent; depth = 0; number = 0; node = VolumeNode m }
 
 abbrev pub whole_node : Meaning → FvNode
@@ -21,16 +21,16 @@ whole_node m = reported_node 0 0 (whole_row m) (VolumeNode m)
 -- ---- a part that a row holds
 
 -- if the row describes a volume, these are the files that are stored in it
-abbrev pub HasFiles : (input : List ℕ) (row : FvNode) → List LocatedFile → Type 0
-HasFiles input row stored =
+abbrev pub RowHasFiles : (input : List ℕ) (row : FvNode) → List LocatedFile → Type 0
+RowHasFiles input row stored =
     row.content ≡ 0 → BeginWithFiles (bytes_at input row) (map (file_form (bytes_at input row)) stored)
 
 -- the row of part number n that the holder's row holds (`row_in`), and its report for C (`node_in`). `file_in` is the
 -- report of a file, and `next` is the offset of a section in the bytes of the holder's row
-abbrev pub row_in : Holder → (n : ℕ) → NodeMeaning → TreeRow
+abbrev pub row_in : Holder → (n : ℕ) → NodeMeaning → NodeRow
 row_in h n node = record { parent = h.row; depth = h.depth; number = n; node = node }
 
-abbrev pub file_in : Holder → Option LocatedFile → TreeRow → FvNode
+abbrev pub file_in : Holder → Option LocatedFile → NodeRow → FvNode
 file_in h None r = reported_node h.offset 0 r r.node
 file_in h (Some l) r = reported_node (h.offset + data_place (bare_form l)) (bare_form l).head.header_len r r.node
 
@@ -41,14 +41,14 @@ node_in h n next (SectionNode s) =
     reported_node (h.offset + (next + section_header_len (section_is_extended s))) 0 (row_in h n (SectionNode s)) (SectionNode s)
 
 -- if the part is a file, the holder has a file number n
-abbrev pub IsStored : Holder → (n : ℕ) → NodeMeaning → Type 0
-IsStored h n (VolumeNode m) = Unit {0}
-IsStored h n (FileNode f) = n < length h.files.items
-IsStored h n (SectionNode s) = Unit {0}
+abbrev pub HasFileNumber : Holder → (n : ℕ) → NodeMeaning → Type 0
+HasFileNumber h n (VolumeNode m) = Unit {0}
+HasFileNumber h n (FileNode f) = n < length h.files.items
+HasFileNumber h n (SectionNode s) = Unit {0}
 
 -- the part ends before this offset
-abbrev pub IsWithin : ℕ → FvNode → Type 0
-IsWithin most row = row.offset + row.length < most
+abbrev pub EndsBefore : ℕ → FvNode → Type 0
+EndsBefore most row = row.offset + row.length < most
 
 -- ---- the rows of the parts that a row holds
 
@@ -76,7 +76,7 @@ pub record HoldsIn (input : List ℕ) (h : Holder) (nodes : List NodeMeaning) (r
   pub within : row.offset + row.length ≤ length input
   pub contents : Contents input row nodes
   pub offset : row.offset ≡ h.offset
-  pub files : HasFiles input row h.files.items
+  pub files : RowHasFiles input row h.files.items
 
 -- the holder is one of these rows, and holds these parts
 abbrev pub HoldsParts : (input : List ℕ) (rows : List FvNode) → Holder → List NodeMeaning → Type 0

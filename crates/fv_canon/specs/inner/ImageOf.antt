@@ -55,17 +55,17 @@ abbrev mutual
 
   pub stored_file : FileMeaning → List ℕ → StoredFile
   stored_file (File name kind attributes content) starts =
-      record { name = name; kind = kind; attributes = attributes; payload = data_of content starts }
+      record { name = name; kind = kind; attributes = attributes; payload = written_data content starts }
 
-  pub data_of : ContentMeaning → List ℕ → List ℕ
-  data_of (Plain b) starts = b
-  data_of (Sectioned sections tail) starts = stream_of (frames_of 0 sections starts) tail
+  pub written_data : ContentMeaning → List ℕ → List ℕ
+  written_data (Plain b) starts = b
+  written_data (Sectioned sections tail) starts = stream_of (written_frames 0 sections starts) tail
 
-  pub frames_of : ℕ → SectionMeanings → List ℕ → List FrameForm
-  frames_of at NoSections starts = []
-  frames_of at (MoreSections s ss) starts =
+  pub written_frames : ℕ → SectionMeanings → List ℕ → List FrameForm
+  written_frames at NoSections starts = []
+  written_frames at (MoreSections s ss) starts =
       frame_of at s starts
-      ∷ frames_of (up_to_4 (at + frame_len (frame_of at s starts))) ss
+      ∷ written_frames (up_to_4 (at + frame_len (frame_of at s starts))) ss
       (drop (starts_in (volumes_in_section s)) starts)
 
   pub frame_of : ℕ → SectionMeaning → List ℕ → FrameForm
@@ -74,5 +74,5 @@ abbrev mutual
 
   pub body_image : BodyMeaning → List ℕ → List ℕ
   body_image (Leaf b) starts = b
-  body_image (Group sections tail) starts = stream_of (frames_of 0 sections starts) tail
+  body_image (Group sections tail) starts = stream_of (written_frames 0 sections starts) tail
   body_image (Nested volume) starts = image_of volume starts

@@ -28,9 +28,9 @@ verdict_of true = Done
 verdict_of false = Different
 
 -- the sink took the text of the comparison; or a side stopped the run
-abbrev pub Compares : {S : Type 0} → (S → List ℕ → S → Type 0) → Bool → (at other : Option ℕ) → (first second : Change)
+abbrev pub ComparesInputs : {S : Type 0} → (S → List ℕ → S → Type 0) → Bool → (at other : Option ℕ) → (first second : Change)
     → S → S → Result Status (Side × Fault) → Type 0
-Compares takes hex at other first second s t result =
+ComparesInputs takes hex at other first second s t result =
     Puts takes (ComparisonRunText hex at other first second) (λ e. SideStops e.0 hex at other first second e.1) s t result
 
 -- the sink took the text of the command; or the command is refused

@@ -1,12 +1,12 @@
 -- The four sorts of states, which determine the kind of cell that a header begins, and the result of the checks at one
 -- place: a value, or the fault of the first check that does not hold.
-use Rattle.std.specs.Prelude.{ℕ, Bool, true, false, List, [], Option, Some, if◌then◌else◌, ◌+◌, ◌==◌, nat_lt, None}
+use Rattle.std.specs.Prelude.{ℕ, Bool, true, false, List, [], Option, Some, if◌then◌else◌, ◌+◌, ◌==◌, ◌&&◌, not, nat_lt, None}
 use Rattle.std.specs.Prelude.{Result, Ok, Err, length}
 use Rattle.fv_base.specs.Words.{Check, outer_fault, erased_byte, up_to_8}
 use Rattle.fv_base.specs.declared.fault.Fault.{Fault}
 use Rattle.fv_base.specs.declared.flash.FileSystem.{FileSystem}
 use Rattle.fv_base.specs.declared.flash.Polarity.{Polarity}
-use Rattle.fv_file.specs.FileChecks.{file_checks, stub_checks, verify_checks, leading_count, payload_at}
+use Rattle.fv_file.specs.FileChecks.{file_checks, stub_checks, verify_checks, leading_count, payload_at, is_valid_state, skips_data}
 use Rattle.fv_file.specs.States.{is_alive, state_of}
 use Rattle.fv_file.specs.declared.state.FileState.{FileState}
 use Rattle.fv_file.specs.declared.state.FileState.TheVariants as states
@@ -14,7 +14,8 @@ use Rattle.fv_base.specs.inner.Verdicts.{first_fault, verdict_by}
 use Rattle.fv_base.specs.declared.fault.FaultKind.TheVariants as kinds
 use Rattle.fv_file.specs.Cells.{CellForm}
 use Rattle.fv_file.specs.Cells as cells
-use Rattle.fv_file.specs.FileHeaders.{head_in, pad_kind, state_at}
+use Rattle.fv_file.specs.FileHeaders.{attributes_at, head_in, pad_kind, state_at}
+use Rattle.fv_file.specs.FileAttributes.{is_fixed}
 use Rattle.fv_file.specs.declared.head.FileHead.{FileHead}
 
 -- Erased: nothing was written. Unfinished: the header is under construction or invalid. Dead: the file was deleted, or
@@ -37,6 +38,10 @@ abbrev pub is_unfinished : Option FileState → Bool
 is_unfinished (Some states.Construction) = true
 is_unfinished (Some states.HeaderInvalid) = true
 is_unfinished _ = false
+
+-- State, Type and Attributes of the header at the start of r show a valid file that is not a pad and is fixed
+abbrev pub is_held : Polarity → List ℕ → Bool
+is_held polarity r = not (skips_data (is_valid_state (state_of polarity (state_at r))) r) && is_fixed (attributes_at r)
 
 -- the checks of a cell according to the sort of its state; `alive` says whether a file is valid
 abbrev pub sort_checks : StateSort → FileSystem → Bool → ℕ → List ℕ → List (Check Fault)
@@ -89,11 +94,11 @@ cell_verdict system polarity p r =
     else state_verdict (state_of polarity (state_at r)) system polarity p r
 
 -- the header at the start of the bytes, if they show a state (the case without a state is not used)
-abbrev pub head_of : Option FileState → List ℕ → FileHead
-head_of None b = head_in states.Free b
-head_of (Some state) b = head_in state b
+abbrev pub shown_head : Option FileState → List ℕ → FileHead
+shown_head None b = head_in states.Free b
+shown_head (Some state) b = head_in state b
 
 -- the header of the valid file or pad that the bytes begin with, or the first fault
 abbrev pub verify_verdict : FileSystem → Polarity → List ℕ → Result FileHead Fault
 verify_verdict system polarity b =
-    verdict_by (first_fault (verify_checks system polarity b)) (head_of (state_of polarity (state_at b)) b)
+    verdict_by (first_fault (verify_checks system polarity b)) (shown_head (state_of polarity (state_at b)) b)

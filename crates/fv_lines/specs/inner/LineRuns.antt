@@ -11,13 +11,13 @@ use Rattle.fv_lines.specs.Notes.{AreNotes, HeldDepex, depex_lines}
 use Rattle.fv_lines.specs.declared.depex_notes.DepexNote.{DepexNote}
 
 -- a cell ends within the bytes that a volume may have, and its lengths agree (`LengthsAgree`)
-pub record Fits (c : CellForm) : Type 0 where
+pub record CellFits (c : CellForm) : Type 0 where
   pub within : offset_of c + cell_len c ≤ volume_limit
   pub lengths_agree : LengthsAgree c
 
 -- each of the cells fits, and together they have at most as many bytes as a volume may have
 pub record FitTogether (cells : List CellForm) : Type 0 where
-  pub each : AllByRecursion Fits cells
+  pub each : AllByRecursion CellFits cells
   pub together : sum_by cell_len cells ≤ volume_limit
 
 -- the sums after one more cell has been added

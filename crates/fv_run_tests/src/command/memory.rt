@@ -1,5 +1,5 @@
-//! Failed allocations in a list with digests: `tests/program/memory` makes each allocation of the test fail
-//! in turn, and no wrong result may be returned.
+//! Failed allocations in a list with digests: `tests/program/test_memory.py` makes each allocation
+//! of the test fail in turn, and no wrong result may be returned.
 
 use crate::row_bytes::bytes_in_two_tries;
 use fv_base::Port;

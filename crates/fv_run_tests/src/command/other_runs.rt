@@ -1,4 +1,5 @@
-//! Small runs of each command. Each of them is also a row of `rows/`, which `tests/program/rows.py` runs.
+//! Small runs of each command. Each of them is also a row of `rows/`, which
+//! `tests/program/test_rows.py` runs.
 
 /// Returns runs of each command. The test lets their readers and writers fail after each byte in
 /// turn.

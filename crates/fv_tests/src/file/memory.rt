@@ -1,5 +1,5 @@
-//! Deleted and incomplete files, and failed allocations: `tests/program/memory` makes each allocation of the
-//! test fail in turn, and no wrong result may be returned.
+//! Deleted and incomplete files, and failed allocations: `tests/program/test_memory.py` makes each
+//! allocation of the test fail in turn, and no wrong result may be returned.
 
 use super::written::{file_head, is_joined, pad_head};
 use super::{A, P};

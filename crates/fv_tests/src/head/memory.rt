@@ -1,5 +1,5 @@
-//! The fields of a header, and failed allocations: `tests/program/memory` makes each allocation of the test
-//! fail in turn, and no wrong result may be returned.
+//! The fields of a header, and failed allocations: `tests/program/test_memory.py` makes each
+//! allocation of the test fail in turn, and no wrong result may be returned.
 
 use super::extended::{BARE, has_ext, image_ext, image_head, is_written_until};
 use crate::faults::OUT_OF_MEMORY;

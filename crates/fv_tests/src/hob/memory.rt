@@ -1,5 +1,5 @@
-//! Failed allocations: `tests/program/memory` makes each allocation of the test fail in turn, and no wrong
-//! result may be returned.
+//! Failed allocations: `tests/program/test_memory.py` makes each allocation of the test fail in
+//! turn, and no wrong result may be returned.
 
 use super::Parts;
 use super::known::{Known, lists};

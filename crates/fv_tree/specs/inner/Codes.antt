@@ -8,6 +8,7 @@ use Rattle.fv_base.specs.declared.flash.FileSystem.{FileSystem}
 use Rattle.fv_base.specs.declared.guid.Guid.{Guid}
 use Rattle.fv_base.specs.declared.flash.FileSystem.TheVariants.{Ffs2, Ffs3}
 use Rattle.fv_head.specs.Words.{Extension, HeadFields}
+use Rattle.fv_tree.specs.Difference.{is_ffs3}
 use Rattle.fv_tree.specs.Meaning.{Meaning, Volume, FileMeanings, NoFiles, MoreFiles, FileMeaning, File, ContentMeaning}
 use Rattle.fv_tree.specs.Meaning.{Plain, Sectioned, SectionMeanings, NoSections, MoreSections, SectionMeaning, Section}
 use Rattle.fv_tree.specs.Meaning.{BodyMeaning, Leaf, Group, Nested}
@@ -18,15 +19,11 @@ bytes_code = coded_list coded_ℕ
 abbrev pub guid_code : Coded Guid
 guid_code = code_by (List ℕ) bytes_code bytes_of guid_of (λ _. refl)
 
-abbrev pub system_to : FileSystem → Bool
-system_to Ffs2 = false
-system_to Ffs3 = true
-
 abbrev pub system_by : Bool → FileSystem
 system_by false = Ffs2
 system_by true = Ffs3
 
-pub system_back : (s : FileSystem) → system_by (system_to s) ≡ s
+pub system_back : (s : FileSystem) → system_by (is_ffs3 s) ≡ s
 system_back Ffs2 = refl
 system_back Ffs3 = refl
 
@@ -39,7 +36,7 @@ extension_code =
 abbrev pub head_code : Coded HeadFields
 head_code =
     code_by (List ℕ × (FileSystem × (ℕ × (ℕ × (ℕ × (List (ℕ × ℕ) × Option Extension))))))
-    (coded× bytes_code (coded× (code_by Bool coded_bool system_to system_by system_back) (coded× coded_ℕ
+    (coded× bytes_code (coded× (code_by Bool coded_bool is_ffs3 system_by system_back) (coded× coded_ℕ
     (coded× coded_ℕ (coded× coded_ℕ (coded× (coded_list (coded× coded_ℕ coded_ℕ)) (coded_option extension_code)))))))
     (λ h. (h.zero_vector, (h.file_system, (h.length, (h.attributes, (h.reserved, (h.blocks, h.ext)))))))
     (λ p. record {

@@ -29,12 +29,12 @@ abbrev pub IsSmallCell : CellForm → Type 0
 IsSmallCell (Valid at head payload) = (at < 2 ^ 32) × (length payload < 2 ^ 32) × FollowsFrom head payload
 IsSmallCell _ = Unit {0}
 
--- P holds of the value that was read, or F of the fault unless memory ran out
+-- the result is a value of which P is true, or a fault. F is true of the fault unless the fault is `out_of_memory`
 abbrev pub ReadsOrFails : {T : Type 0} → (T → Type 0) → (Fault → Type 0) → Result T Fault → Type 0
 ReadsOrFails P F result = MatchResult result P (λ f. f ≢ out_of_memory → F f)
 
--- a valid file in some bytes: its data have at most `volume_limit` bytes, and end below 2 ^ 63 if the volume begins at
--- `base`
+-- the file is a valid file of some volume (`IsStoredFile`), and its data have at most `volume_limit` bytes. If the volume
+-- begins at the offset `base`, the data end at an offset below 2 ^ 63
 abbrev pub IsReadyFile : ℕ → FileForm → Type 0
 IsReadyFile base f =
     IsStoredFile f × (base + data_place f + length f.payload < 2 ^ 63) × (length f.payload ≤ volume_limit)

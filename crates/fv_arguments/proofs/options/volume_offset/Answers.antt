@@ -2,7 +2,7 @@ use Rattle.std.proofs.Common.{◌≡◌, ◌≢◌, ◌<◌, ◌++◌, ℕ, ◌�
 use Rattle.fv_base.proofs.Laws.{digit_value}
 use Rattle.fv_arguments.specs.Words.{IsAtWord, IsNumberWord, IsNumeralOf}
 use Rattle.fv_arguments.specs.declared.words.WordFault.{WordFault}
-use Rattle.fv_arguments.specs.inner.CommandWords.{ReadsOrFails}
+use Rattle.fv_arguments.specs.inner.CommandWords.{ParsesOrFails}
 use Rattle.fv_arguments.proofs.options.volume_offset.Goals as goal
 
 -- a text that begins with `0x` is not a decimal number
@@ -11,7 +11,7 @@ not_decimal digits n h = let second : digit_value 120 < 10 = h.0.1.1.0 in absurd
 
 -- so an offset that begins with `0x` is read as the hexadecimal numeral after `0x`
 hexadecimal_place : (text digits : List ℕ) (r : Result ℕ WordFault) → text ≡ codes "0x" ++ digits
-    → ReadsOrFails (IsNumeralOf 16 64 digits) r → ReadsOrFails (λ n. IsAtWord (Some text) (Some n)) r
+    → ParsesOrFails (IsNumeralOf 16 64 digits) r → ParsesOrFails (λ n. IsAtWord (Some text) (Some n)) r
 hexadecimal_place text digits (Ok n) is h = inr (digits, is, h)
 hexadecimal_place text digits (Err f) is h = λ words n spells. elim spells [
   | inl number ↦ not_decimal digits n (rw is at number)
@@ -20,7 +20,7 @@ hexadecimal_place text digits (Err f) is h = λ words n spells. elim spells [
 
 -- an offset that does not begin with `0x` is read as a decimal number
 decimal_place : (text : List ℕ) (r : Result ℕ WordFault) → ((digits : List ℕ) → text ≢ codes "0x" ++ digits)
-    → ReadsOrFails (IsNumberWord 64 text) r → ReadsOrFails (λ n. IsAtWord (Some text) (Some n)) r
+    → ParsesOrFails (IsNumberWord 64 text) r → ParsesOrFails (λ n. IsAtWord (Some text) (Some n)) r
 decimal_place text (Ok n) lacks h = inl h
 decimal_place text (Err f) lacks h = λ words n spells. elim spells [
   | inl number ↦ h words n number

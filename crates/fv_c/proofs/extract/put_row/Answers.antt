@@ -3,13 +3,13 @@ use Rattle.fv_base.proofs.Laws.{YieldsList-from_first, nth_from_yields_List, IfE
 use Rattle.fv_rows.specs.Words.{part_node, row_of, tree_rows as rows_of}
 use Rattle.fv_rows.specs.declared.tree_walk.Row.{Row}
 use Rattle.fv_c.specs.ExtractedParts.{ExtractsTo, HasNoRow, part_at}
-use Rattle.fv_c.specs.TreeParts.{TreeRow, tree_rows}
+use Rattle.fv_c.specs.TreeParts.{NodeRow, node_rows}
 use Rattle.fv_c.proofs.WalkRows.{of_row, part_found}
 use Rattle.fv_c.proofs.extract.put_row.Goals.{After-nth}
 use Rattle.fv_c.proofs.extract.put_row.Goals as goal
 
 -- a tree has at most n rows if it has no row n
-no_row : (rows : List TreeRow) (n : ℕ) → option_map (λ (r : TreeRow). r.node) (slice_get rows n) ≡ None → length rows ≤ n
+no_row : (rows : List NodeRow) (n : ℕ) → option_map (λ (r : NodeRow). r.node) (slice_get rows n) ≡ None → length rows ≤ n
 no_row [] n e = omega arith
 no_row (r ∷ rows) zero e = cc
 no_row (r ∷ rows) (suc n) e = omega (arith, no_row rows n e)
@@ -38,5 +38,5 @@ returns-in-Some-clause-err c = λ input accepted.
 pub returns-in-None-clause-ok : goal.returns-in-None-clause-ok
 returns-in-None-clause-ok c = λ input accepted.
     let part = found (goal.at.returns-in-None-clause-ok c).After-nth None c.in-None.is in
-    let none : HasNoRow c.args.row input = (c.args.volume.now, accepted, no_row (tree_rows c.args.volume.now) _ part) in
+    let none : HasNoRow c.args.row input = (c.args.volume.now, accepted, no_row (node_rows c.args.volume.now) _ part) in
     search rules

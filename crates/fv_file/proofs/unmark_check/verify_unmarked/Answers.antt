@@ -1,13 +1,13 @@
 use Rattle.std.proofs.Common.{◌≤◌, ◌<◌, ◌+◌}
 use Rattle.fv_base.proofs.Laws.{◌∙◌, arith, length, sym, common_steps, err_is}
 use Rattle.fv_file.proofs.BodyLemmas.{rest_free, rest_used}
-use Rattle.fv_file.proofs.MarkWalkLemmas.{Walked, walk_begins, walk_ends, walk_on, walk_stops}
+use Rattle.fv_file.proofs.MarkWalkLemmas.{UnmarkedUpto, walk_begins, walk_ends, walk_on, walk_stops}
 use Rattle.fv_file.proofs.unmark_check.verify_unmarked.Goals.{In_ok-span}
 use Rattle.fv_file.proofs.unmark_check.verify_unmarked.Goals as goal
 
 -- after this cell, the marks up to the next place are removed
 further : (c : In_ok-span)
-    → Walked c.args.system c.args.polarity c.args.first c.args.body.now (c.loop-system.at + c.in_ok-span.span)
+    → UnmarkedUpto c.args.system c.args.polarity c.args.first c.args.body.now (c.loop-system.at + c.in_ok-span.span)
     × (0 < c.in_ok-span.span) × (c.loop-system.at + c.in_ok-span.span ≤ length c.args.body.now)
 further c =
     let used = rest_used _ _ c.args.body.now c.loop-system.at c.bytes_from.ensures (sym c.is_free.ensures ∙ c.loop-system-test.true) in

@@ -1,11 +1,11 @@
 use Rattle.std.proofs.Common.{◌+◌, ◌*◌, length, take, map}
 use Rattle.fv_tree.specs.Words.{Pairwise, MeansFile, Stream, file_form}
-use Rattle.fv_tree.proofs.StreamWalkLaws.{Walked}
+use Rattle.fv_tree.proofs.StreamWalkLaws.{StreamWalked}
 use Rattle.fv_tree.proofs.read.+read.Given as goal
 
 abbrev pub invariant-read_stream-loop-frame : goal.invariant-read_stream-loop-frame
 invariant-read_stream-loop-frame l =
-    Walked l.at.left l.bytes l.walk.1 l.walk.0 l.initial.volumes.items l.volumes.items
+    StreamWalked l.at.left l.bytes l.walk.1 l.walk.0 l.initial.volumes.items l.volumes.items
 
 abbrev pub decreases-read_stream-loop-frame : goal.decreases-read_stream-loop-frame
 decreases-read_stream-loop-frame l = length l.walk.0

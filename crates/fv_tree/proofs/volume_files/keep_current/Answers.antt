@@ -1,7 +1,6 @@
 use Rattle.std.proofs.Common.{◌∙◌, rules, ap, arith, map, List, Bool, not}
 use Rattle.fv_base.proofs.Laws.{Contains, get_or-map, length-map, list_any}
-use Rattle.fv_names.specs.Words.{NamedFile}
-use Rattle.fv_names.specs.Words as names
+use Rattle.fv_names.specs.Words.{NamedFile, replaced_by}
 use Rattle.fv_tree.specs.Words.{file_form}
 use Rattle.fv_tree.specs.declared.volume_files.LocatedFile.{LocatedFile}
 use Rattle.fv_tree.specs.inner.NameForms.{named_file}
@@ -12,7 +11,7 @@ pub returns : goal.returns
 returns c = λ b.
     let files : List LocatedFile = c.args.files.now.items in
     let all : List NamedFile = map named_file files in
-    let test : LocatedFile → Bool = λ s. not (list_any (names.replaced_by (named_file s)) all) in
+    let test : LocatedFile → Bool = λ s. not (list_any (replaced_by (named_file s)) all) in
     ap (map (file_form b)) (retained _ test _ files (λ s kept f' (n, l, is) k.
     let member : Contains all (named_file s) =
     (n, omega (arith, l, length-map files named_file), get_or-map named_file files n s (named_file s) l ∙ ap named_file is) in

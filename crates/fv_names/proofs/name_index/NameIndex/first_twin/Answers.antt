@@ -1,4 +1,4 @@
-use Rattle.std.proofs.Common.{◌≡◌, ◌<◌, ◌≤◌, ◌⊎◌, ◌+◌, ℕ, rules, List, length, map, take, get_or, sym, ap, ◌∙◌, subst, arith, true, inl, inr}
+use Rattle.std.proofs.Common.{◌≡◌, ◌<◌, ◌≤◌, ◌+◌, ℕ, rules, List, length, map, take, get_or, sym, ap, ◌∙◌, subst, arith, true, inl, inr}
 use Rattle.fv_base.proofs.Laws.{list_any, cases_lt, get_or_default, length-map}
 use Rattle.fv_names.specs.Words.{NamedFile, is_twin, Entry}
 use Rattle.fv_names.specs.inner.NameOrders.{IsTwinAt}
@@ -10,20 +10,18 @@ use Rattle.fv_names.proofs.name_index.NameIndex.first_twin.Goals.{else-number-fi
 use Rattle.fv_names.proofs.name_index.NameIndex.first_twin.Goals as goal
 
 -- n is at most the number of each entry that precedes the place and has a twin among the two entries before it
-abbrev IsLeast : List NamedFile → List Entry → ℕ → ℕ → Type 0
-IsLeast fs es place n =
+abbrev IsLeastTwin : List NamedFile → List Entry → ℕ → ℕ → Type 0
+IsLeastTwin fs es place n =
     (d : NamedFile) (e : Entry) (r : ℕ) → 0 < r → r < place → IsTwinAt fs d es e r → n ≤ (get_or es r e).1
 
-least_more : (fs : List NamedFile) (es : List Entry) (place n m : ℕ) → IsLeast fs es place n → m ≤ n
-    → ((d : NamedFile) (e : Entry) → IsTwinAt fs d es e place → m ≤ (get_or es place e).1) → IsLeast fs es (place + 1) m
-least_more fs es place n m old le here d e r above below twin = go (cases_lt r place) where
-  go : (r < place) ⊎ (place ≤ r) → m ≤ (get_or es r e).1
-  go (inl lt) = omega (arith, old d e r above lt twin, le)
-  go (inr ge) =
-      let same : r ≡ place = omega (arith, ge, below) in
-      let now : IsTwinAt fs d es e place = subst (IsTwinAt fs d es e) same twin in
-      let most : m ≤ (get_or es place e).1 = here d e now in
-      subst (λ (k : ℕ). m ≤ (get_or es k e).1) (sym same) most
+least_more : (fs : List NamedFile) (es : List Entry) (place n m : ℕ) → IsLeastTwin fs es place n → m ≤ n
+    → ((d : NamedFile) (e : Entry) → IsTwinAt fs d es e place → m ≤ (get_or es place e).1) → IsLeastTwin fs es (place + 1) m
+least_more fs es place n m old le here d e r above below twin = elim (cases_lt r place) [
+  | inl lt ↦ omega (arith, old d e r above lt twin, le)
+  | inr ge ↦
+      let same : place ≡ r = omega (arith, ge, below) in
+      subst (λ (k : ℕ). IsTwinAt fs d es e k → m ≤ (get_or es k e).1) same (here d e) twin
+]
 
 pub loop-place-preserved : goal.loop-place-preserved
 loop-place-preserved g c =
@@ -62,5 +60,6 @@ pub returns-clause-none : goal.returns-clause-none
 returns-clause-none g c =
     let fs : List NamedFile = map g.F.Named.named c.args.files.now in
     let es : List Entry = c.args.self.now.sorted.items in
-    first_none fs es c.requires no_named no_entry c.loop-place.first (omega (arith, c.loop-place.invariant.most, length-map c.args.files.now g.F.Named.named))
+    first_none fs es c.requires no_named no_entry c.loop-place.first
     (λ r above below twin. c.loop-place.invariant.least no_named no_entry r above (omega (arith, below)) twin)
+    (omega (arith, c.loop-place.invariant.most, length-map c.args.files.now g.F.Named.named))

@@ -20,6 +20,3 @@ returns-else-are_twins-clause-all c = grind (arith, common_steps)
 
 pub returns-else-are_twins-clause-yes : goal.returns-else-are_twins-clause-yes
 returns-else-are_twins-clause-yes c = grind (arith, common_steps)
-
-pub returns-then-are_twins-clause-yes : goal.returns-then-are_twins-clause-yes
-returns-then-are_twins-clause-yes c = grind (arith, common_steps)

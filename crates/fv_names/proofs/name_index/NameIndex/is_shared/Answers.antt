@@ -1,3 +1,4 @@
+use Rattle.std.proofs.lemmas.Grind.{common_steps}
 use Rattle.std.proofs.Common.{◌≡◌, ◌<◌, ◌+◌, ℕ, List, length, get_or, sym, ap, ◌∙◌, subst, arith}
 use Rattle.fv_base.proofs.Laws.{get_or_default}
 use Rattle.fv_names.specs.Words.{Entry, Halves}
@@ -22,14 +23,8 @@ returns-then-second-len-clause-yes c = λ sorted same e.
 
 pub returns-then-second-len-clause-all : goal.returns-then-second-len-clause-all
 returns-then-second-len-clause-all c = λ sorted e shared.
-    let es : List Entry = c.args.self.now.sorted.items in
-    let first : ℕ = c.place_of-second.result in
-    let key : Halves = c.halves-key.result in
-    let a : Entry = c.index.result.now in
-    let l : first + 1 < length es = omega arith in
-    let here : a.0 ≡ (get_or es (first + 1) e).0 = ap (λ (x : Entry). x.0) (c.index.ensures ∙ get_or_default es (first + 1) a e l) in
-    let has = second_has es key sorted first (c.place_of-second.ensures.parted sorted) e (subst (IsShared es e) (sym c.halves-key.ensures.is) shared) in
-    c.eq.ensures ∙ (halves_decide a.0 key).1 (here ∙ has.1)
+    let has = second_has _ c.halves-key.result sorted _ (c.place_of-second.ensures.parted sorted) e (subst (IsShared _ e) (sym c.halves-key.ensures.is) shared) in
+    grind (arith, common_steps, has, get_or_default)
 
 pub returns-else-second-len-clause-all : goal.returns-else-second-len-clause-all
 returns-else-second-len-clause-all c = λ sorted e shared.

@@ -1,8 +1,7 @@
 use Rattle.std.proofs.Common.{◌≡◌, ◌<◌, ℕ, ◌+◌, [], ◌∷◌, ◌++◌, get_or, length, List, map, take, sym, ap, ◌∙◌, subst, arith, length-take-le, take_all}
-use Rattle.fv_base.proofs.Laws.{All, AllWithin, get_or-map, length-map, take_more, All-map, recursion_from_All, common_steps}
+use Rattle.fv_base.proofs.Laws.{All, AllWithin, get_or-map, length-map, take_more, All-map, recursion_from_All}
 use Rattle.std.specs.List.Sorted.{IsPermutation}
-use Rattle.std.proofs.lemmas.List.Elements.{All-from_all_within, AllWithin-more, AllWithin-none}
-use Rattle.fv_base.specs.declared.guid.Guid.{Guid}
+use Rattle.std.proofs.lemmas.List.Elements.{All-from_all_within, AllWithin-more}
 use Rattle.fv_names.specs.Words.{NamedFile, names_in, Entry, Halves, IsName, halves_of, numbered}
 use Rattle.fv_names.proofs.IndexLaws.{no_entry, no_named}
 use Rattle.fv_names.proofs.NumberedLaws.{numbered_at, numbered_length}
@@ -18,15 +17,12 @@ entry_count fs = numbered_length 0 (names_in fs) ∙ length-map fs (λ (f : Name
 entry_more : (fs : List NamedFile) (i : ℕ) → i < length fs
     → take (i + 1) (numbered 0 (names_in fs)) ≡ take i (numbered 0 (names_in fs)) ++ (halves_of (get_or fs i no_named).name, i) ∷ []
 entry_more fs i l =
-    let name : NamedFile → Guid = λ f. f.name in
-    let entries : List Entry = numbered 0 (names_in fs) in
-    let number : 0 + i ≡ i = omega arith in
-    take_more entries i no_entry (omega (arith, l, entry_count fs)) ∙ ap (λ (e : Entry). take i entries ++ e ∷ []) (numbered_at 0 (names_in fs) i
-    no_named.name no_entry (omega (arith, l, length-map fs name)) ∙ ap (λ (g : Guid). (halves_of g, 0 + i))
-    (get_or-map name fs i no_named no_named.name l) ∙ ap (λ (n : ℕ). (halves_of (get_or fs i no_named).name, n)) number)
-
-pub loop-file-init : goal.loop-file-init
-loop-file-init g c = grind (arith, common_steps, AllWithin-none) steps 150000
+    let count : i < length (names_in fs) = omega (arith, l, length-map fs (λ (f : NamedFile). f.name)) in
+    rw (
+      take_more (numbered 0 (names_in fs)) i no_entry (omega (arith, l, entry_count fs)),
+      numbered_at (names_in fs) i no_named.name no_entry count,
+      get_or-map (λ (f : NamedFile). f.name) fs i no_named no_named.name l,
+    )
 
 pub loop-file-preserved : goal.loop-file-preserved
 loop-file-preserved g c =
@@ -60,6 +56,3 @@ returns-clause-found g c =
       all = subst (λ es. IsPermutation es c.sort_unstable.new.self.items) items c.sort_unstable.ensures.permutation;
       are_names = recursion_from_All IsName (names_in files) (All-map IsName (λ (f : NamedFile). f.name) files whole);
     }
-
-pub overflow_cast-number : goal.overflow_cast-number
-overflow_cast-number c = grind (arith, common_steps)

@@ -1,5 +1,5 @@
 use Rattle.std.proofs.Common.{◌∙◌, length, sym, ap, subst, arith}
-use Rattle.fv_rows.specs.Words.{AreLevels, left_in}
+use Rattle.fv_rows.specs.Words.{AreRowLevels, rows_left_in}
 use Rattle.fv_rows.proofs.RowWalkLaws.{inside_are, inside_left, levels_less, next_fits, next_left, none_left, rest_are}
 use Rattle.fv_rows.proofs.tree_walk.TreeWalk.next_row.Goals as goal
 
@@ -48,6 +48,6 @@ loop-part-preserved c =
     let l = c.loop-part.self-inside.level in
     let items = c.in_ok-self-inside.ensures.items in
     record {
-      levels = subst (AreLevels 0) items (levels_less 0 (length levels) levels l (omega arith) c.loop-part.invariant.levels).0;
-      left = c.loop-part.invariant.left ∙ none_left levels l (rw c.in_default.is at c.next_part.ensures.none) ∙ ap (left_in 0) items;
+      levels = subst (AreRowLevels 0) items (levels_less 0 (length levels) levels l (omega arith) c.loop-part.invariant.levels).0;
+      left = c.loop-part.invariant.left ∙ none_left levels l (rw c.in_default.is at c.next_part.ensures.none) ∙ ap (rows_left_in 0) items;
     }

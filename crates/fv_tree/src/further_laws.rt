@@ -1,0 +1,39 @@
+//! Laws over the definitions of this crate. None of these functions does anything: their contracts
+//! are the laws.
+
+ghost use Rattle.std.specs.Prelude.{◌≡◌, ◌⊎◌, ℕ, List};
+ghost use Rattle.fv_base.specs.Words.{IsBytes};
+ghost use Rattle.fv_base.specs.declared.fault.Fault.{Fault};
+ghost use Rattle.fv_file.specs.Words.{CellForm};
+ghost use Rattle.fv_head.specs.declared.extent.Extent.{Extent};
+ghost use Rattle.fv_tree.specs.Difference.{difference};
+ghost use Rattle.fv_tree.specs.InputFaults.{IsFirstOfInput};
+ghost use Rattle.fv_tree.specs.LocatedFiles.{BeginsTiled, NotTiled};
+ghost use Rattle.fv_tree.specs.Meaning.{Meaning};
+ghost use Rattle.fv_tree.specs.Unfixing.{IsUnfixed};
+
+/// An input has at most one first fault.
+pub fn one_first_fault()
+    ensures { (b : List ℕ) (f g : Fault) → IsFirstOfInput b f → IsFirstOfInput b g → f ≡ g }
+{}
+
+/// Bytes begin with a volume whose body is tiled by cells, or have a first fault of the header or of
+/// a cell, and never both. (PI specification, volume 3, sections 3.2.1 and 3.2.3.)
+pub fn every_tiling()
+    ensures either { (b : List ℕ) → IsBytes b
+        → ((e : Extent) × (cells : List CellForm) × BeginsTiled e cells b) ⊎ ((f : Fault) × NotTiled b f) }
+    ensures never { (b : List ℕ) (e : Extent) (cells : List CellForm) (f : Fault)
+        → BeginsTiled e cells b → NotTiled b f → ⊥ }
+{}
+
+/// A copy whose fixed files have lost their marks stays as it is if the marks are taken away again.
+/// (PI specification, volume 3, section 3.2.3.1, FFS_ATTRIB_FIXED.)
+pub fn unfixed_copies_stay()
+    ensures { (b copy : List ℕ) → IsUnfixed b copy → IsUnfixed copy copy }
+{}
+
+/// The first difference of two meanings is at the same place, and of the same kind, whichever of
+/// them is the first.
+pub fn comparisons_agree()
+    ensures { (m k : Meaning) → difference m k ≡ difference k m }
+{}

@@ -1,0 +1,320 @@
+# SPDX-License-Identifier: BSD-2-Clause-Patent
+"""Makes the inputs that are meant to be costly. costs.py runs the program and the commands of the package over
+them."""
+
+from __future__ import annotations
+
+import importlib
+import lzma
+import random
+import struct
+from collections.abc import Callable
+from typing import Any
+
+from tests import making
+from tests.making import CRC32, DXE_DEPEX, FFS3, FREEFORM, GROUP, MARKED, RAW, RAW_FILE, SUMMED, UI, VALID, VERSION
+from tests.making import VOLUME, VOLUME_IMAGE, Header, compression, file_head, guid, guided, header, section, stream
+from tests.making import sum16, ui
+
+MIB = 1 << 20
+ALL = 1 << 62  # parts: as many as fit
+# A function that returns an input of about `size` bytes, or of `parts` parts if these have fewer bytes.
+Make = Callable[[int, int], bytes]
+Inputs = dict[str, Make]
+# Ways of LZMA that are quick, and good for equal bytes or for equal instructions.
+QUICK = [{"id": lzma.FILTER_LZMA1, "preset": 1, "lc": 0, "lp": 0, "pb": 0, "nice_len": 273, "mf": lzma.MF_HC4}]
+FOR_CODE = [{"id": lzma.FILTER_LZMA1, "preset": 6, "lc": 0, "nice_len": 273}]
+
+
+# Parts of inputs
+
+
+def volume(*files: bytes) -> bytes:
+    """Returns a volume of these files, without free space."""
+    return making.volume(files, 0, system=FFS3)
+
+
+def file(data: bytes, kind: int = VOLUME_IMAGE) -> bytes:
+    """Returns a file with a checksum of its data."""
+    return making.file(guid(10), data, kind, SUMMED)
+
+
+def holder(*sections: bytes) -> bytes:
+    """Returns a volume with a file of these sections."""
+    return volume(file(stream(*sections)))
+
+
+def in_section(inner: bytes) -> bytes:
+    """Returns a section with a volume."""
+    return section(VOLUME, inner)
+
+
+def held(inner: bytes) -> bytes:
+    """Returns a volume with a volume in a section."""
+    return holder(in_section(inner))
+
+
+def group(inner: bytes) -> bytes:
+    """Returns a group."""
+    return section(GROUP, inner)
+
+
+def summed(inner: bytes) -> bytes:
+    """Returns a CRC-32 section with a wrong sum."""
+    return guided(CRC32, inner, 2, bytes(4))
+
+
+def packed(data: bytes) -> bytes:
+    """Returns a section with compressed data."""
+    return making.compressed(data, QUICK)
+
+
+def squeezed(contents: bytes) -> bytes:
+    """Returns a volume with these contents, packed twice."""
+    return holder(packed(packed(contents)))
+
+
+def nested(levels: int, data: bytes, wrap: Callable[[bytes], bytes]) -> bytes:
+    """Returns data that are wrapped this many times."""
+    for _ in range(levels):
+        data = wrap(data)
+    return data
+
+
+def flipped(data: bytes, at: int = -1, bits: int = 1) -> bytes:
+    """Returns the bytes with other bits at one place, the last byte if none is given."""
+    found = bytearray(data)
+    found[at] ^= bits
+    return bytes(found)
+
+
+def repeated(block: bytes, size: int, parts: int = ALL) -> bytes:
+    """Returns a block as often as it fits into this many bytes, and at most as often as `parts` says."""
+    block += bytes(-len(block) % 4)
+    return block * max(1, min(size // len(block), parts))
+
+
+EMPTY, BARE, MAP = section(RAW, b""), header(72, system=FFS3), Header(2112, [(1, 8)] * 255 + [(9, 8)], FFS3).packed()
+PAD, GONE, STUB = making.pad(b"\0"), making.deleted(guid(10), b""), bytes(23) + b"\xfe"
+WRONG = b"\3\0\0\x19"  # a section whose size is wrong
+
+
+# Makers of inputs
+
+
+def many(block: bytes, share: int = 1) -> Make:
+    """Makes a block as often as it fits. Each block counts for this many parts."""
+    return lambda size, parts: repeated(block, size, parts // share)
+
+
+def files_of(block: bytes) -> Make:
+    """Makes a volume with a file or another cell as often as it fits."""
+    return lambda size, parts: volume(repeated(block, size, parts))
+
+
+def file_of(block: bytes) -> Make:
+    """Makes a volume with a file, which has a section as often as it fits."""
+    return lambda size, parts: holder(repeated(block, size, parts))
+
+
+def without_limit(make: Make) -> Make:
+    """Makes an input of as many parts as fit."""
+    return lambda size, _: make(size, ALL)
+
+
+def named(count: int, state: int = VALID) -> bytes:
+    """Returns files without data. Their names differ only in the last three bytes."""
+    block = bytearray(file_head(bytes(16), RAW_FILE, 0, 24, state=state ^ 0xFF) * 256)
+    head_sum, blocks = block[16], list[bytes]()
+    block[15::24] = bytes(range(256))
+    sums = [bytes((head_sum - less - last) & 0xFF for last in range(256)) for less in range(256)]
+    for high in range((count + 255) // 256):
+        first, second = divmod(high, 256)
+        block[13::24], block[14::24] = bytes([first]) * 256, bytes([second]) * 256
+        block[16::24] = sums[(first + second) & 0xFF]
+        blocks.append(bytes(block))
+    return b"".join(blocks)[: 24 * count]
+
+
+def replaced(size: int, parts: int) -> bytes:
+    """Makes a volume with each name twice: a file that is marked for update, and a file that replaces it."""
+    count = min(size // 48, parts)
+    return volume(named(count, MARKED), named(count))
+
+
+def mixed(size: int, _parts: int) -> bytes:
+    """Makes a volume with each name twice, marked and valid, in no order."""
+    files = named(size // 48, MARKED) + named(size // 48)
+    heads = [files[at : at + 24] for at in range(0, len(files), 24)]
+    random.Random(7).shuffle(heads)
+    return volume(*heads)
+
+
+def alike(data: bytes, share: int = 1) -> Make:
+    """Makes a volume of files with different names and the same data. Each file counts for this many parts."""
+
+    def make(size: int, parts: int) -> bytes:
+        count = max(1, min(size // (32 + len(data)), parts // share))
+        return volume(*(making.file(guid(it), data, FREEFORM) for it in range(1, count + 1)))
+
+    return make
+
+
+def summed_heads(size: int, _parts: int) -> bytes:
+    """Makes a header of 2112 bytes with a right checksum at each multiple of 40. Its block map lacks the pair of
+    zeros."""
+    cycle = b"_FVH" + struct.pack("<IHHHBB", 0x800, 2112, 0, 0, 0, 2) + FFS3 + struct.pack("<Q", 2112)
+    rest = sum16((cycle * 53)[:2112])  # the 53 checksums in a header are to add up to this
+    cycle = cycle[:10] + struct.pack("<H", rest * pow(53, -1, 1 << 16) & 0xFFFF) + cycle[12:]
+    return repeated(cycle, size)
+
+
+def extended(entry: bytes, count: int) -> Make:
+    """Makes a volume with volumes in sections, each with an extended header that has this entry as often as `count`
+    says."""
+    ext = bytes(16) + struct.pack("<I", 20 + len(entry) * count) + entry * count
+    ext += b"\xff" * (-len(ext) % 8)
+    return file_of(in_section(header(72 + len(ext), 72, FFS3) + ext))
+
+
+def no_bits(length: int, width: int, has_matches: bool) -> bytes:
+    """Returns data with the compression of the UEFI specification (`width` 4) or Tiano's (5). Each block has one symbol
+    for its bytes, which takes no bits. The first block has one byte if matches follow."""
+    fields, left = list[str](), length
+    while left > 0:
+        is_match, is_first = has_matches and left < length, has_matches and left == length
+        count = 1 if is_first else min(-(-left // 3) if is_match else left, 65535)
+        fields.append(f"{count:016b}" + "0" * 19 + f"{256 if is_match else 0x41:09b}" + "0" * (2 * width))
+        left -= count * (3 if is_match else 1)
+    return making.with_lengths("".join(fields), length)
+
+
+def by_uefi(length: int, has_matches: bool) -> bytes:
+    """Returns a volume with a section that has the compression of the UEFI specification."""
+    return holder(compression(no_bits(length, 4, has_matches), length, 1))
+
+
+def by_brotli(size: int, _parts: int) -> bytes:
+    """Makes a volume with a section of Brotli data, or without it if Python's module for Brotli is missing."""
+    try:
+        module: Any = importlib.import_module("brotli")
+    except ImportError:
+        return holder()
+    return holder(guided(making.BROTLI, struct.pack("<QQ", size, size) + module.compress(bytes(size))))
+
+
+def code(size: int, _parts: int) -> bytes:
+    """Makes sections with LZMA of x86 code, in which every instruction is a call."""
+    data = lzma.compress(b"\xe8\0\0\0\0" * (size // 20), format=lzma.FORMAT_ALONE, filters=FOR_CODE)
+    return holder(*[packed(guided(making.LZMA_X86, data))] * 4)
+
+
+def around(data: bytes) -> bytes:
+    """Returns a packed section, in which seven groups are around eight volumes in one another."""
+    return packed(nested(7, nested(8, data, lambda it: in_section(holder(it))), group))
+
+
+# Volumes, and bytes beside volumes, for the program and for the package
+BOTH: Inputs = {
+    "signatures": without_limit(many(b"_FVH\0\0\0\0")),  # at each multiple of 8
+    "summed_heads": summed_heads,
+    "stubs": files_of(STUB),  # headers under construction
+    "pads": files_of(PAD),  # pads that hold a byte each
+    # Nine volumes in one another, with data in the innermost. Each level has a checksum of these data.
+    "deep_data": lambda size, _: nested(8, volume(file(bytes(size - 4096), RAW_FILE)), held),
+    "names": lambda size, parts: volume(named(min(size // 24, parts))),
+    "replaced_names": replaced,
+    "small_volumes": many(BARE),  # side by side
+}
+# Volumes for the program
+FOR_PROGRAM: Inputs = {
+    # Nine volumes in one another, and eight groups in one another, each with empty sections too
+    "levels": lambda size, _: nested(
+        9, b"", lambda it: holder(in_section(it) if it else b"", EMPTY * (size // 40))
+    ),
+    "level_groups": lambda size, _: holder(
+        nested(8, EMPTY * (size // 40), lambda it: group(it) + EMPTY * (size // 40))
+    ),
+    # Volumes without a body, each with a block map of 256 entries, side by side and in sections
+    "maps": many(MAP),
+    "nested_maps": file_of(in_section(MAP)),
+    "mixed_names": mixed,
+    # A file marked for update at the end of the volume has the name of the last of many files.
+    "late_pair": lambda size, _: volume(named(size // 24 - 1), named(size // 24 - 1, MARKED)[-24:]),
+    # The 256 names that have their first 15 bytes in common, each twice
+    "twin_names": lambda *_: replaced(ALL, 256),
+    "empty_sections": file_of(EMPTY),
+    "empty_expressions": file_of(section(DXE_DEPEX, b"")),  # dependency expressions that lack their END
+    # One dependency expression of as many ops as fit
+    "one_expression": lambda size, _: holder(section(DXE_DEPEX, b"\x06" + b"\x06\x03" * (size // 2) + b"\x08")),
+    # Many groups side by side, each with groups nested eight deep and an empty section in the innermost; and groups
+    # nested eight deep, each with three groups, the innermost with three empty sections
+    "small_groups": file_of(nested(8, EMPTY, group)),
+    "groups_of_three": file_of(nested(8, EMPTY, lambda it: group(it * 3))),
+    # Eight volumes in one another, the innermost with empty sections in its file
+    "nested_sections": lambda size, _: nested(7, holder(repeated(EMPTY, size)), held),
+    # Extended headers of as many entries of 5 bytes as fit, and of 257 entries of 4 bytes: a list that doubles when it
+    # is full has room for 512 of them, two pages of memory, and uses both pages
+    "entries": extended(struct.pack("<HH", 5, 1) + b"\0", (65535 - 20) // 5),
+    "short_entries": extended(struct.pack("<HH", 4, 1), 257),
+}
+# Volumes, and bytes beside volumes, for the package
+FOR_PACKAGE: Inputs = {
+    # Files whose names have 4,096 characters that cannot be seen, and 200 characters that are escaped in HTML
+    "long_names": alike(section(UI, b"\x00\xd8" * 4096), 2),
+    "marked_names": alike(section(UI, "aA&'<\">".encode("utf-16-le") * 29), 2),
+    # Deleted files without data: as many as the parts, and as many as fit; and also as many pads and volumes as fit
+    "dead_files": files_of(GONE),
+    "more_dead_files": without_limit(files_of(GONE)),
+    "more_pads": without_limit(files_of(PAD)),
+    "more_volumes": without_limit(many(BARE)),
+    # Volumes side by side whose only file has a header with a wrong sum
+    "wrong_volumes": many(flipped(volume(named(1)), 72 + 16)),
+    # The signature at each odd multiple of 4 and a byte more
+    "odd_signatures": lambda size, _: bytes(1) + repeated(b"_FVH", size),
+    # Headers that claim all bytes after them with a wrong sum, and headers of revision 1, at each multiple of 72
+    "likely_headers": lambda size, _: repeated(flipped(header(size // 2 & ~7, system=FFS3), 50), size),
+    "old_headers": without_limit(many(flipped(BARE, 55, 3))),
+}
+# Sections for the package
+SECTIONS: Inputs = {
+    # User interface sections of 8 KiB of zeros, and 250 volumes
+    "zero_names": lambda size, parts: repeated(section(UI, bytes(8192)), size, parts) + in_section(BARE) * 250,
+    "zero_versions": many(section(VERSION, bytes(8194))),
+    "short_names": many(ui("A")),
+    "empty_bodies": many(EMPTY),
+    "expressions": many(section(DXE_DEPEX, (b"\x02" + bytes(range(16))) * 1000)),  # 1,000 PUSH
+    "short_expressions": many(section(DXE_DEPEX, b"\x06\x08")),
+    "unknown_packed": many(guided(making.UNKNOWN, b"")),
+    # LZMA sections that are cut short, each after 1 MiB or more
+    "broken_packed": lambda size, parts: repeated(packed(bytes(size // 64 + MIB))[:-6], size, min(parts, 2000)),
+    "empty_packed": many(packed(b"")),
+    # CRC-32 sections with wrong sums, and compression sections that do not compress, in one another or side by side
+    "checked": lambda size, _: nested(7, bytes(max(size // 9, 4)), summed),
+    "many_checked": many(summed(EMPTY * 8)),
+    "stored": lambda size, _: nested(7, bytes(max(size // 9, 4)), compression),
+    # As many groups in one another as the parts, and eight groups in one another around empty sections
+    "deep_groups": lambda _, parts: nested(min(parts, 3000), EMPTY, group),
+    "wide_groups": lambda size, parts: nested(8, repeated(EMPTY, size, parts - 8), group),
+    "tiny_volumes": many(in_section(BARE), 2),
+    # Volumes that are rejected after eight sections, because the last one is wrong
+    "wrong_sections": many(in_section(holder(EMPTY * 8 + WRONG)), 12),
+    "zeros": lambda size, _: bytes(size),
+}
+# Images for the package that are packed already, and hold this many bytes or parts
+PACKED: Inputs = {
+    "uefi_matches": lambda size, _: by_uefi(size // 4, True),
+    "uefi_bytes": lambda size, _: by_uefi(size // 4, False),
+    "tiano_bytes": lambda size, _: holder(guided(making.TIANO, no_bits(size // 4, 5, False))),
+    # Eight opened sections in one another, in each of which seven groups are around eight volumes in one another
+    "deepest": lambda size, _: holder(nested(8, section(RAW, bytes(max(size >> 9, 8))), around)),
+    "code": code,
+    # Sections that each hold a volume of very many sections, the last of which is wrong
+    "tried": lambda _, parts: holder(*[packed(packed(in_section(holder(EMPTY * parts + WRONG))))] * 20),
+    "brotli": by_brotli,
+    "many_zeros": lambda size, _: holder(*[packed(packed(bytes(size)))] * 8),
+    "cut_zeros": lambda size, _: holder(*[packed(packed(bytes(size))[:-8])] * 60),
+}
+# The memory that a run of the program may take, as a multiple of its input. For the other inputs this multiple is 2.
+RATIOS = {"stubs": 5, "pads": 4, "names": 5, "replaced_names": 4, "small_volumes": 5}
+RATIOS |= {"mixed_names": 4, "late_pair": 5, "entries": 5, "short_entries": 5}

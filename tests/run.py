@@ -1,0 +1,449 @@
+#!/usr/bin/env python3
+# SPDX-License-Identifier: BSD-2-Clause-Patent
+"""Runs the checks of this repository, and says of each whether it passed, failed or was skipped. --list prints what each
+check shows. Without names, all of them run, which is the gate: .ci/run.
+
+A NAME is a check (`rows`), a pattern (`t*`), or one case of a check, after a dot: a test in Python
+(`commands.same.Verdicts`), a row (`rows.block-map-of-256`), the wrong bodies of a crate or one of them (`mutants.fv_head`,
+`mutants.fv_head.EDIT`), a document with examples (`examples.README`). The check gets the text after the dot as its
+argument. It gets the arguments after `--` as they are: `tests/run.py tables -- --write`. A check that is run by name does
+not run the checks that it needs.
+
+A check has passed if it ends with status 0. With status 77 it has tried nothing, so it has neither passed nor failed. With
+any other status it has failed, and a check that needs it is not run and has failed too. Each line `NAME: skipped: WHAT,
+WHY` in the output of a check counts as one skipped thing, whether or not the check has passed. Status 77 without such a
+line counts as one skipped thing too. The counts of `rt ci` are added to the counts of the checks. The last line is `N
+passed, N failed`, and `, N skipped` follows if something was skipped."""
+
+from __future__ import annotations
+
+import argparse
+import ctypes
+import fnmatch
+import os
+import queue
+import re
+import shlex
+import signal
+import subprocess
+import sys
+import tempfile
+import threading
+import time
+from collections.abc import Callable, Iterator
+from dataclasses import dataclass, field
+from pathlib import Path
+
+ROOT = Path(__file__).resolve().parent.parent
+NOTHING_TRIED = 77
+SKIPPED = re.compile(r"^(?:[^ ]+: )?skipped: (.*)$", re.MULTILINE)
+COUNTED = re.compile(r"^(\d+) passed, (\d+) failed$", re.MULTILINE)
+# The lines that are shown of the output of a check that has failed.
+LAST = 60
+# The file without which a check that needs the thing can try nothing, and the reason that is given then.
+MADE = {
+    "program": ("crates/fv_tool/out/fv_tool", "the program is not built (./fvtool builds it)"),
+    "library": ("crates/fv_c/out/libfv_c.a", "the library is not built (libfv/build builds it)"),
+}
+# The folders with files that are made. No check may write anywhere else in the repository.
+OUTPUTS = {".git", "out", "target", "dist"}
+# A check that proves nothing, and a check beside which nothing may run.
+QUICK, ALONE = 1, 2
+
+
+@dataclass(frozen=True)
+class Check:
+    """A check: its name, the package or module of unittest (`tests.NAME`) or the command that it runs, or a function that
+    returns errors, and what it shows. `after` names the checks that come first, if they are run too, and `needs` the things without
+    which the check can try nothing (MADE). `joint` replaces the dots in the argument of the check."""
+
+    name: str
+    runs: str | Callable[[Run], list[str]]
+    kind: int
+    shows: str
+    after: tuple[str, ...] = ()
+    needs: tuple[str, ...] = ()
+    joint: str = "."
+
+    def first(self) -> tuple[str, ...]:
+        """Returns the names of the checks that come first."""
+        return self.after + tuple(it for it in self.needs if it != self.name)
+
+    def words(self, arguments: list[str]) -> list[str]:
+        """Returns the words of the command for some cases, or for all of them."""
+        assert isinstance(self.runs, str)
+        if re.fullmatch(r"tests(\.\w+)+", self.runs):
+            return [sys.executable, "-m", "tests.frame", self.runs, *arguments]
+        return [*shlex.split(self.runs), *arguments]
+
+
+def bad_edits(run: Run) -> list[str]:
+    """Returns the edits that did not reach the prover. rt ci also passes if an edit cannot be applied or compiled, but
+    that edit shows nothing."""
+    lines = run.output("prove").splitlines() if "prove" in run.results else ["BAD EDIT: prove has not run"]
+    return [line for line in lines if "BAD EDIT" in line]
+
+
+def written(run: Run) -> list[str]:
+    """Returns the files of the repository that have changed since the run began, except made files."""
+    return [f"{it} was written, changed or removed" for it in differing(run.files, files(ROOT))]
+
+
+# fmt: off
+CHECKS = (
+    Check("prove", """bash -c 'rt ci && tools/statement --keep "$OUTPUT"'""", ALONE,
+          "proves all crates from nothing, with their tests, programs and must-fail edits (rt ci)"),
+    Check("edits", bad_edits, 0, "each must-fail edit has reached the prover in rt ci", after=("prove",)),
+    Check("program", "tools/prove.py fv_tool", QUICK | ALONE,
+          "the program is built from these sources, or is built now", after=("prove",), needs=("program",)),
+    Check("archive", "python3 -m tests.mutants.archive", ALONE,
+          "the archive of the library for C is compiled over the crates that rt ci has proved", after=("prove",)),
+    Check("mutants", "python3 -m tests.mutants", ALONE,
+          "the prover rejects wrong bodies of public functions, many in each check", after=("archive",), joint="/"),
+    Check("library", "libfv/build", QUICK | ALONE,
+          "the library for C is built over its archive", after=("archive",), needs=("library",)),
+    Check("libfv", "tests.libfv", QUICK,
+          "the library in C and C++, and the checks of the fuzzer over made inputs", after=("program", "library")),
+    Check("rows", "tests.program.test_rows", QUICK,
+          "the program over each row of crates/fv_run_tests/rows: command, inputs, status and output", needs=("program",)),
+    Check("memory", "tests.program.test_memory", 0,
+          "the program and some tests with each allocation refused in turn, and the memory that a small file takes",
+          after=("prove",), needs=("program",)),
+    Check("slices", "tests/program/slices", 0,
+          "the compiler rejects a test that uses a slice of the input after the input is gone", after=("prove",)),
+    Check("commands", "tests.commands", QUICK, "the commands fv-.. and the recipes", after=("program", "library")),
+    Check("python", "tests.python", QUICK, "the package for Python, and its wheel", after=("program", "library")),
+    Check("rust", "tests.rust", QUICK, "the crates for Rust", after=("program", "library")),
+    Check("abi", "tests/libfv/abi", QUICK,
+          "the built library and fv.h have the interface that libfv/abi describes (abidiff, nm)", needs=("library",)),
+    Check("streams", "tests.program.test_streams", QUICK,
+          "the program with closed, full and interrupted streams, with wrong arguments, and at a terminal",
+          needs=("program",)),
+    Check("static", "tests/program/static", QUICK,
+          "the program is linked with the C library in it (tools/static), and runs", needs=("program",)),
+    Check("examples", "python3 -m tests.examples", QUICK,
+          "the examples of README, PROGRAM, FAULTS and the recipes print what these documents show",
+          after=("library",), needs=("program",)),
+    Check("tables", "python3 -m tests.sources.tables", QUICK,
+          "MEANING and CONTRACTS agree with the comments of specs/ and src/, from which they are made"),
+    Check("words", "python3 -m tests.sources.words", QUICK,
+          "definitions are in the right one of specs/ and specs/inner/, and names and quotes in documents exist"),
+    Check("believed", "python3 -m tests.sources.believed", QUICK,
+          "PROVED lists the files that the headline rests on, and these files hold nothing else"),
+    Check("plain", "python3 -m tests.sources.plain", QUICK,
+          "documents, comments and help use plain words, whole sentences and readable widths"),
+    Check("header", "bash -c 'tools/version --check && tools/licence --check && libfv/generate --check'", QUICK,
+          "the files that are made from fv.h, and those that show the version or the licence, agree"),
+    Check("types", "python3 -m tests.sources.scripts types", QUICK, "the types in all scripts in Python are right (mypy --strict)"),
+    Check("shell", "python3 -m tests.sources.scripts shell", QUICK, "shell scripts are well-formed (shellcheck), and safe with CDPATH"),
+    Check("runner", "tests.sources.test_runner", QUICK, "this script counts rightly, and leaves no process"),
+    Check("fuzz", "tests/fuzz/check", 0,
+          "a minute of the fuzzer of the library has no finding, and the fuzzer finds planted faults", needs=("library",)),
+    Check("fresh", "python3 -m tests.install.fresh", 0,
+          "`make check` passes in a new root of Debian 12 that has only what README asks for", needs=("program",)),
+    Check("install", "tests.install", 0,
+          "the program, the library, the pages and the Debian packages are installed, run and removed",
+          after=("program", "library")),
+    Check("written", written, QUICK | ALONE, "no check has written in the repository, except made files"),
+)
+# fmt: on
+
+
+@dataclass
+class Result:
+    """The result of a check: `passed`, `failed` or `skipped`, and why, and the counts that are added."""
+
+    state: str
+    why: str = ""
+    passed: int = 0
+    failed: int = 0
+    skips: list[str] = field(default_factory=list)
+
+
+def counted(name: str, status: int, output: str) -> Result:
+    """Returns the result of a check that has ended with this status and this output."""
+    skips = SKIPPED.findall(output)
+    if status == NOTHING_TRIED:
+        return Result("skipped", skips=[f"{name}: {it}" for it in skips or ["all of it, and it gives no reason"]])
+    counts = COUNTED.findall(output) if name == "prove" else []
+    passed, failed = map(int, counts[-1]) if counts else (int(status == 0), 0)
+    failed = max(failed, int(status != 0))
+    state = "failed" if failed else "passed"
+    return Result(state, f"it ended with status {status}" * bool(status), passed, failed, [f"{name}: {it}" for it in skips])
+
+
+def files(root: Path) -> dict[str, tuple[int, ...]]:
+    """Returns the files below a folder, except made files, with the time of their last change, their size and mode."""
+    found: dict[str, tuple[int, ...]] = {}
+    for folder, folders, names in os.walk(root):
+        folders[:] = [it for it in folders if it not in OUTPUTS]
+        for name in names:
+            status = os.lstat(os.path.join(folder, name))
+            path = os.path.relpath(os.path.join(folder, name), root)
+            found[path] = status.st_mtime_ns, status.st_size, status.st_mode
+    return found
+
+
+def differing(before: dict[str, tuple[int, ...]], after: dict[str, tuple[int, ...]]) -> list[str]:
+    """Returns the files that are written, changed or removed."""
+    return sorted(it for it in {*before, *after} if before.get(it) != after.get(it))
+
+
+def environment(jobs: int) -> dict[str, str]:
+    """Returns the environment of the checks. They run with a variable CDPATH, as some people have it: then `cd` writes the
+    name of the folder, and a script that reads this output must be prepared for it."""
+    paths = (".", "python", "tools", "crates/fv_run_tests/rows")
+    return {
+        **os.environ,
+        "CDPATH": ".",
+        "LC_ALL": "C",
+        "PATH": f"{ROOT / 'python/bin'}:{os.environ.get('PATH', os.defpath)}",
+        "PYTHONDONTWRITEBYTECODE": "1",
+        "PYTHONPATH": ":".join(str(ROOT / it) for it in paths),
+        "RT_JOBS": str(jobs),
+    }
+
+
+def usual_jobs() -> int:
+    """Returns the number of checks that run side by side: one for each processor, if there are 4 GB for each (the largest
+    check of rt ci takes 3). By default, rt ci estimates two to three times the memory that a check takes, and starts the
+    crate with the longest chain last."""
+    given = os.environ.get("RT_JOBS", "")
+    with open("/proc/meminfo", encoding="utf-8") as file:
+        free = next(int(line.split()[1]) for line in file if line.startswith("MemAvailable:"))
+    return int(given) if given.isdigit() and int(given) else max(1, min(len(os.sched_getaffinity(0)), free // 4_000_000))
+
+
+def descendants() -> list[int]:
+    """Returns the processes that this process or its descendants have started, except those that have ended."""
+    parents: dict[int, int] = {}
+    for path in Path("/proc").glob("[0-9]*/stat"):
+        try:
+            state, parent = path.read_text(errors="replace").rpartition(")")[2].split()[:2]
+        except OSError:
+            continue
+        if state != "Z":
+            parents[int(path.parent.name)] = int(parent)
+    found = {os.getpid()}
+    while more := {child for child, parent in parents.items() if parent in found} - found:
+        found |= more
+    return sorted(found - {os.getpid()})
+
+
+def end_all() -> None:
+    """Ends all processes that the checks have started: first in a way that lets them remove their files."""
+    for sign, seconds in ((signal.SIGINT, 5), (signal.SIGTERM, 2), (signal.SIGKILL, 5)):
+        left = descendants()
+        for process in left:
+            try:
+                os.kill(process, sign)
+            except ProcessLookupError:
+                pass
+        end = time.monotonic() + seconds
+        while left and time.monotonic() < end:
+            time.sleep(0.05)
+            left = descendants()
+
+
+class Run:
+    """A run of some checks, each with its arguments: the results so far, by the names of the checks."""
+
+    def __init__(self, room: Path, given: argparse.Namespace, checks: tuple[Check, ...]) -> None:
+        self.room, self.given = room, given
+        self.checks = [it for it in checks if it.name in given.chosen]
+        self.waiting = [*self.checks]
+        self.is_live = given.verbose or len(self.waiting) == 1
+        self.environment = environment(given.jobs)
+        self.files = files(ROOT)
+        self.results: dict[str, Result] = {}
+        self.running: dict[str, Check] = {}
+        self.ended: queue.Queue[tuple[Check, Result, float]] = queue.Queue()
+
+    def output(self, name: str) -> str:
+        """Returns the output of a check so far."""
+        return (self.room / f"{name}.said").read_text(encoding="utf-8", errors="replace")
+
+    def hindered(self, check: Check) -> Result | None:
+        """Returns the result of a check that cannot be run, because a check that it needs has failed, or because
+        something that it needs is not built."""
+        for name in check.first():
+            if name in self.results and self.results[name].state == "failed":
+                return Result("failed", f"not run, because {name} has failed", failed=1)
+        for path, why in map(MADE.__getitem__, check.needs):
+            if not (ROOT / path).exists():
+                return Result("skipped", skips=[f"{check.name}: all of it, {why}"])
+        return None
+
+    def try_one(self, check: Check) -> None:
+        """Runs a check. (This is a thread of its own.)"""
+        began = time.monotonic()
+        try:
+            result = counted(check.name, self.status(check), self.output(check.name))
+        except Exception as error:  # whatever it is, the check has failed, and the run goes on
+            result = Result("failed", str(error), failed=1)
+        self.ended.put((check, result, time.monotonic() - began))
+
+    def status(self, check: Check) -> int:
+        """Runs a check, writes its output to a file, and returns its status."""
+        path, folder = self.room / f"{check.name}.said", self.room / check.name
+        folder.mkdir()
+        env = {**self.environment, "OUTPUT": str(path), "TMPDIR": str(folder)}
+        if "prove" in self.results:
+            env["AFTER_RT_CI"] = "yes"  # the kit's files are built from these sources, though they do not say so
+        if callable(check.runs):
+            lines = check.runs(self)
+            path.write_text("".join(f"{check.name}: {it}\n" for it in lines), encoding="utf-8")
+            return int(bool(lines))
+        none, words = subprocess.DEVNULL, check.words(self.given.chosen[check.name])
+        with path.open("wb") as file:
+            process = subprocess.Popen(
+                words, cwd=ROOT, env=env, stdin=none, stdout=file, stderr=file, start_new_session=True
+            )
+        return self.wait(check, process)
+
+    def wait(self, check: Check, process: subprocess.Popen[bytes]) -> int:
+        """Waits for a check to end, and shows its output until then if its lines are wanted. Returns its status."""
+        if not self.is_live and check.name != "prove":
+            return process.wait()
+        with (self.room / f"{check.name}.said").open("rb") as file:
+            while True:
+                status = process.poll()
+                print(file.read().decode(errors="replace"), end="", flush=True)
+                if status is not None:
+                    return status
+                time.sleep(0.1)
+
+    def start(self) -> None:
+        """Starts the checks that can be started now, in the order of the table."""
+        for check in list(self.waiting):
+            is_alone = any(it.kind & ALONE for it in self.running.values())
+            if len(self.running) >= self.given.jobs or is_alone or check.kind & ALONE and self.running:
+                return
+            if any(name == it.name for name in check.first() for it in [*self.waiting, *self.running.values()]):
+                continue
+            self.waiting.remove(check)
+            self.running[check.name] = check
+            hindered = self.hindered(check)
+            if hindered:
+                self.ended.put((check, hindered, 0.0))
+            else:
+                threading.Thread(target=self.try_one, args=(check,), daemon=True).start()
+
+    def run(self) -> None:
+        """Runs the checks, and prints a line for each when it ends."""
+        while self.waiting or self.running:
+            self.start()
+            check, result, seconds = self.ended.get()
+            del self.running[check.name]
+            self.results[check.name] = result
+            self.show(check, result, seconds)
+
+    def show(self, check: Check, result: Result, seconds: float) -> None:
+        """Prints the line of a check that has ended, and the end of its output if it has failed."""
+        path = self.room / f"{check.name}.said"
+        lines = self.output(check.name).splitlines() if path.exists() else []
+        said = [result.why, *(lines[-1:] if result.state == "passed" else result.skips)]
+        first = next((it.removeprefix(f"{check.name}: ") for it in said if it), "")
+        print(f"{check.name}: {result.state}, {seconds:.1f} s" + f": {first}" * bool(first), flush=True)
+        if result.state == "failed" and not self.is_live:
+            left = len(lines) - LAST
+            shown = [*[f"({left} lines before)"] * (left > 0), *lines[-LAST:]]
+            print("".join(f"    {it}\n" for it in shown), end="", flush=True)
+
+    def summary(self) -> int:
+        """Lists what failed and what was skipped, and prints the last line. Returns the exit status, which is 0 if nothing
+        failed. With --strict, nothing may be skipped either."""
+        found = [self.results[it.name] for it in self.checks]
+        wrong = [it.name for it in self.checks if self.results[it.name].state == "failed"]
+        skips = [skip for it in found for skip in it.skips]
+        print(*(f"failed: {it}\n" for it in wrong), *(f"not tried: {it}\n" for it in skips), sep="", end="")
+        if skips and self.given.strict:
+            print("with --strict, nothing may be skipped")
+        line = f"{sum(it.passed for it in found)} passed, {sum(it.failed for it in found)} failed"
+        line += f", {len(skips)} skipped" * bool(skips)
+        if not wrong and "prove" in self.results and len(self.results) == len(CHECKS):
+            subprocess.run(["tools/statement", "--keep-all", line], cwd=ROOT, env=self.environment, check=False)
+        print(line)
+        return int(bool(wrong or skips and self.given.strict))
+
+
+def chosen(reader: argparse.ArgumentParser, checks: tuple[Check, ...]) -> argparse.Namespace:
+    """Reads the arguments. Adds the names of the checks that they choose, each with the arguments of the check."""
+    words, further = sys.argv[1:], list[str]()
+    if "--" in words:
+        words, further = words[: words.index("--")], words[words.index("--") + 1 :]
+    given = reader.parse_args(words)
+    given.chosen = {}
+    for name in given.names:
+        pattern, _, case = name.partition(".")
+        matching = [it for it in checks if fnmatch.fnmatch(it.name, pattern)]
+        if not matching:
+            reader.error(f"no check has the name {pattern} (--list lists them)")
+        for it in matching:
+            given.chosen.setdefault(it.name, []).extend([case.replace(".", it.joint)] * bool(case))
+    if further and len(given.chosen) != 1:
+        reader.error("the arguments after -- are for one check")
+    for cases in given.chosen.values():
+        cases += further
+    given.chosen = given.chosen or {it.name: [] for it in checks if it.kind & QUICK or not given.quick}
+    return given
+
+
+def listed(checks: list[Check]) -> Iterator[str]:
+    """Yields the lines of --list. An asterisk marks the checks of the quick run."""
+    for it in checks:
+        yield f"{it.name:8} {'*' if it.kind & QUICK else ' '} {it.shows}" + f" (after {', '.join(it.first())})" * bool(it.first())
+
+
+def arguments() -> argparse.ArgumentParser:
+    """Returns a reader of the arguments before `--`."""
+    form = argparse.RawDescriptionHelpFormatter
+    reader = argparse.ArgumentParser(prog="tests/run.py", description=__doc__, formatter_class=form)
+    reader.add_argument("names", metavar="NAME", nargs="*", help="a check, or one case of it (none: all checks)")
+    reader.add_argument("--quick", action="store_true", help="only the checks that prove nothing, marked * in --list")
+    reader.add_argument("--strict", action="store_true", help="fails if anything was skipped, as a release needs")
+    reader.add_argument("--jobs", type=int, default=usual_jobs(), help="how many run side by side (here %(default)s)")
+    reader.add_argument("--verbose", action="store_true", help="shows the output of each check")
+    reader.add_argument("--list", action="store_true", help="lists the checks, and runs none")
+    return reader
+
+
+def interrupt(number: int, _: object) -> None:
+    """Ends this process as Ctrl-C does."""
+    raise KeyboardInterrupt(signal.Signals(number).name)
+
+
+def main(checks: tuple[Check, ...] = CHECKS) -> int:
+    """Runs the checks that the arguments choose. Returns the exit status."""
+    given = chosen(arguments(), checks)
+    if given.list:
+        print(*listed([it for it in checks if it.name in given.chosen]), sep="\n")
+        return 0
+    if "prove" in given.chosen and subprocess.run(["tools/prove.py", "--kit"], cwd=ROOT, check=False).returncode:
+        return 1
+    ctypes.CDLL(None).prctl(36, 1)  # PR_SET_CHILD_SUBREAPER: a process whose parent has ended becomes a child of this one
+    for number in (signal.SIGTERM, signal.SIGHUP):
+        signal.signal(number, interrupt)
+    os.umask(0o022)
+    room = Path(tempfile.mkdtemp(prefix="checks-"))
+    room.chmod(0o755)  # other users run some of what the checks make
+    try:
+        run = Run(room, given, checks)
+        run.run()
+        return run.summary()
+    except KeyboardInterrupt:
+        print("interrupted")
+        return 130
+    except OSError as error:  # the output cannot be written, or the disk is full
+        os.dup2(os.open(os.devnull, os.O_WRONLY), 1)
+        print(f"run.py: {error}", file=sys.stderr)
+        return 1
+    finally:
+        for number in (signal.SIGINT, signal.SIGTERM, signal.SIGHUP):
+            signal.signal(number, signal.SIG_IGN)
+        end_all()
+        subprocess.run(["rm", "-rf", "--one-file-system", room], check=False)
+
+
+if __name__ == "__main__":
+    sys.exit(main())
