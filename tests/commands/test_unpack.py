@@ -10,6 +10,7 @@ import io
 import json
 import lzma
 import os
+import re
 import shutil
 import struct
 import sys
@@ -381,7 +382,7 @@ class Unpack(PartsCase):
         rows, words = self.rows("firmware.fd"), ["fv-unpack", "--list", "firmware.fd"]
         table = self.said(1, *words).splitlines()
         self.assertIn("  +0x80   8192  FFS2          01-volume/", table)
-        paths = [line.split("  ")[-1 - ("not opened" in line or ": " in line)] for line in table[1:]]
+        paths = re.findall(r"^.*  ([0-9o][^ \n]*)(?:  .*)?$", "\n".join(table), re.M)
         self.assertEqual(paths, [it["path"] for it in rows])
         self.assertEqual(len(self.said(0, "fv-unpack", "--list", "files.fd").splitlines()), 5104)
         lines = list(map(json.loads, self.said(1, *words, "--sums", "--json").splitlines()))
