@@ -13,9 +13,10 @@ import os
 import re
 import shutil
 import struct
-import sys
 import unittest
 import uuid
+from collections import Counter
+from collections.abc import Iterator
 from pathlib import Path
 
 from fv import unpack
@@ -26,6 +27,7 @@ from fv.names import COMPRESSION, GUIDED
 from fv.opened import Closed, open_section
 
 from tests import making
+from tests.checks import ROOT, read
 from tests.commands.room import AAVMF, EDK2_PATH, GUIDS, ImageCase, Row, Table, needs_edk2, rows_of
 from tests.frame import PROGRAM, needs_firmware, needs_library, needs_program, needs_tool
 from tests.making import DXE_DRIVER, FREEFORM, LZMA, RAW, SECURITY_CORE, UNKNOWN, VOLUME, A, B, C
@@ -163,6 +165,13 @@ offset   size  type        path
 """
 FORMULAS = '=HYPERLINK("http://x")', "+1", "-1", "@x", "a=b"
 HOSTILE = "../../\033]0;pwned\a\u202e\t\n/etc/\u00e9" + "x" * 300
+# Images that UEFIExtract opens too: files of /usr/share, and those that BESIDE names.
+BESIDE = ["ovmf/OVMF.fd", "OVMF/OVMF32_CODE_4M.secboot.fd", "OVMF/OVMF_CODE.secboot.fd", "AAVMF/AAVMF_CODE.fd",
+          "AAVMF/AAVMF32_CODE.fd", "qemu-efi-aarch64/QEMU_EFI.fd",
+          *filter(None, os.environ.get("BESIDE", "").split(":"))]  # fmt: skip
+REPORTED = re.compile(r" (File|Section) +\| (.{21}) \| .{8} \| (.{8}) \| .{8} \| -+ (\S+)")
+HEADERS = {"file": (24, 32), "section": (4, 8)}  # lengths of short and of long headers
+Found = tuple[str, str, int]  # the kind, the GUID and the size of a part
 GUIDED_BY_GENSEC = ("GenSec", "-s", "EFI_SECTION_GUID_DEFINED")
 ROW = ("path", "offset", "in", "part", "type", "guid", "name", "size", "sha256", "note")
 
@@ -215,6 +224,22 @@ def is_at(row: Row, data: bytes) -> bool:
 def files_in(folder: str | Path) -> dict[str, Path]:
     """Returns the files in a folder, at every level, by their paths."""
     return {str(it.relative_to(folder)): it for it in Path(folder).rglob("*") if it.is_file()}
+
+
+def reported(report: str) -> Iterator[Found]:
+    """Yields the files and sections in a report of UEFIExtract, without pads."""
+    for part, kind, size, name in REPORTED.findall(report):
+        if kind.strip() != "Pad":
+            yield part.lower(), name.lower() if part == "File" else "", int(size, 16)
+
+
+def indexed(folder: str) -> Iterator[Found]:
+    """Yields the same from an index, which shows a section that holds a volume as a volume."""
+    for row in rows_of(folder):
+        part = "section" if row["part"] == "volume" and row["in"] != "image" else row["part"]
+        if part in HEADERS:
+            short, long = (int(row["size"]) + it for it in HEADERS[part])
+            yield part, row["guid"] if part == "file" else "", short if short < 1 << 24 else long
 
 
 def swap_folders() -> None:
@@ -488,10 +513,25 @@ class OfDebian(PartsCase):
         self.assertEqual(self.agrees(str(AAVMF), "aavmf"), (407, 297))
 
     @needs_tool("UEFIExtract")
+    @needs_firmware("ovmf")
     def test_beside_uefiextract(self) -> None:
-        names = ("ovmf/OVMF.fd", "AAVMF/AAVMF_CODE.fd", "AAVMF/AAVMF32_CODE.fd", "qemu-efi-aarch64/QEMU_EFI.fd")
-        images = [it for it in (Path("/usr/share", name) for name in names) if it.exists()]
-        self.said(0, sys.executable, "-m", "tests.commands.openers_beside", *images)
+        figures = [line for line in read(ROOT / "recipes/unpack/README.md").splitlines() if ".fd` | " in line]
+        for image in filter(Path.exists, (Path("/usr/share", it) for it in BESIDE)):
+            with self.subTest(image=image):
+                os.mkdir("theirs")
+                shutil.copy(image, "theirs/image")
+                self.run_command("UEFIExtract", "image", "all", cwd="theirs")
+                os.remove("theirs/image")
+                self.run_command("fv-unpack", image, "ours")
+                found = Counter(indexed("ours"))
+                self.assertEqual(found, Counter(reported(Path("theirs/image.report.txt").read_text(errors="replace"))))
+                counts = [sum(found[it] for it in found if it[0] == part) for part in HEADERS]
+                sizes = [sum(it.stat().st_size for it in files_in(folder).values()) for folder in ("theirs", "ours")]
+                row = " | ".join([f"| `{image.name}`", *map(str, counts), *(f"{it / 1e6:.1f} MB" for it in sizes)])
+                known = [line for line in figures if f"`{image.name}`" in line]
+                self.assertIn(known, ([], [f"{row} |"]))
+            for folder in ("theirs", "ours"):
+                shutil.rmtree(folder, ignore_errors=True)
 
 
 @needs_library
