@@ -392,8 +392,9 @@ class Page:
             yield (
                 f'<tr id="{self.anchor(file)}">{offset_cells(row.at)}<td class="name">{breakable(row.name)}'
                 f'{marked(row.mark)}<td>{escape(file.type_name)}{", fixed" * file.is_fixed}{exact_size(file.length)}'
-                f'<td><i class="bar {self.color(file.kind)}" style="width:{width:.0f}px"></i><td class="long dim">'
-                f'{escape(contents(file))}<td class="mono dim">{file.guid}<td class="mono dim">{(row.digest or b"").hex()}</tr>'
+                f'<td><i class="bar {self.color(file.kind)}" style="width:{width:.0f}px"></i>'
+                f'<td class="long dim">{escape(contents(file))}<td class="mono dim">{file.guid}'
+                f'<td class="mono dim">{(row.digest or b"").hex()}</tr>'
             )
 
     def against(self, old: Drawing, new: Drawing) -> None:
