@@ -24,18 +24,13 @@ from collections.abc import Iterator
 from pathlib import Path
 
 from . import cli, images
-from ._page import MOST_VOLUMES, page_of
-from ._sheet import Changes, Drawing, bytes_in, changes, drawing_of
+from ._page import MOST_VOLUMES, draw
+from ._sheet import Drawing, drawing_of
 from .limits import Full
 from .names import EDK2, Names
 from .shown import printable
 
 NAME = "fv-map"
-
-
-def draw(image: Drawing, against: Drawing | None) -> str:
-    """Returns the page of an image, which shows what changed since another image if there is one."""
-    return page_of(image, against, changes(against, image) if against else Changes())
 
 
 def drawing(path: str, names: Names) -> Drawing:
@@ -52,7 +47,7 @@ def complaints(image: Drawing) -> Iterator[str]:
     if not image.sheets:
         yield f"{image.path} has no volume"
     if image.lacks:
-        yield f"{image.path}: not read: {len(image.lacks)} parts, {bytes_in(image.lacks)} bytes"
+        yield f"{image.path}: not read: {len(image.lacks)} parts, {image.lacking} bytes"
     if image.cuts:
         yield f"{image.path}: not all of it is shown"
 
