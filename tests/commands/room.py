@@ -13,7 +13,6 @@ import unittest
 from collections.abc import Callable
 from pathlib import Path
 from typing import Any, cast
-from unittest import mock
 
 from tests import making
 from tests.frame import LIBRARY, RoomCase, Tests
@@ -52,24 +51,12 @@ class ImageCase(RoomCase):
         for name, data in ({name: make() for name, make in making.IMAGES.items()} | cls.images()).items():
             (cls.room / name).write_bytes(data)
 
-    def setUp(self) -> None:
-        super().setUp()
-        self.set_variables(LIBFV=str(LIBRARY))  # for scripts that import the package
-
-    def set_variables(self, **variables: str) -> None:
-        """Sets variables of the environment until the test ends."""
-        patched = mock.patch.dict(os.environ, variables)
-        patched.start()
-        self.addCleanup(patched.stop)
-
-    def said(self, status: int, *words: str | Path, **more: Any) -> str:
-        """Runs a command, and checks its status. Returns what it writes to standard output."""
-        ran = self.run_command(*words, **more)
-        self.assertEqual(ran.returncode, status, (words, ran.stderr))
-        return ran.stdout
+    def run_command(self, *words: str | Path, **more: Any) -> subprocess.CompletedProcess[str]:
+        """Runs a command with the library of the tests, also for scripts that import the package."""
+        return super().run_command(*words, **{**more, "env": {"LIBFV": str(LIBRARY), **more.get("env", {})}})
 
     def output(self, status: int, *words: str | Path, **more: Any) -> bytes:
-        """Returns the same as bytes, for a command that does not write text."""
+        """Runs a command and checks its status, as `runs`. Returns what it writes as bytes."""
         ran = self.run_command(*words, text=False, errors=None, **more)
         self.assertEqual(ran.returncode, status, (words, ran.stderr))
         return cast(bytes, ran.stdout)

@@ -109,7 +109,7 @@ class Archive(ImageCase):
             line = f"{stored} new covered.fd, stored as it is: its canonical image has volumes at other places"
             self.expect(0, line, ARCHIVE, "add", "covered", "covered.fd")
             self.assertEqual(self.got("covered", stored), stored)
-            said = self.said(0, ARCHIVE, "measure", "covered.fd").splitlines()
+            said = self.runs(0, ARCHIVE, "measure", "covered.fd").splitlines()
             self.assertEqual(said[0], "files 1 bytes 328, of them refused 1")
 
     def test_runs_at_once_write_whole_lines(self) -> None:
@@ -117,7 +117,7 @@ class Archive(ImageCase):
         for name in names:
             shutil.copy("plain.fv", name)
         with concurrent.futures.ThreadPoolExecutor(8) as pool:
-            list(pool.map(lambda name: self.said(0, ARCHIVE, "add", "together", name), names))
+            list(pool.map(lambda name: self.runs(0, ARCHIVE, "add", "together", name), names))
         lines = read("together/index").splitlines()
         self.assertEqual(sorted(it.split(" ")[2] for it in lines), names)
         self.assertEqual(len({it.split(" ")[1] for it in lines}), 1)

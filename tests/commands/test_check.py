@@ -81,7 +81,7 @@ class Check(ImageCase):
         self.assertEqual((Path("none.bin").read_bytes(), Path("zeros").read_bytes()), (before, bytes(1000)))
 
     def test_pipes_of_a_shell(self) -> None:
-        said = self.said(0, "bash", "-c", "fv-check <(sleep 0.1; cat plain.fv)")
+        said = self.runs(0, "bash", "-c", "fv-check <(sleep 0.1; cat plain.fv)")
         self.assertEqual(said.split("\t")[:2], ["0", "0 canonical"])
         self.expect(0, "0\t0 canonical\tplain.fv", "fv-check", "--from", "-", input="plain.fv\n")
 
@@ -129,7 +129,7 @@ class Check(ImageCase):
                 status = 2 if "fault" in str(wanted) else int("not" in str(wanted))
                 self.expect(status, f"{status}\t{', '.join(wanted)}\t{image}", "fv-check", "--", image)
 
-        said = self.said(0, "fv-check", "--no-status", "fixed.fv", "fixed.fd", "refused.fv", "refused.fd")
+        said = self.runs(0, "fv-check", "--no-status", "fixed.fv", "fixed.fd", "refused.fv", "refused.fd")
         self.assertEqual(said.count("without marks"), 4)
 
     def verdicts_of_the_program(self, image: str) -> list[str]:

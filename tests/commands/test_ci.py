@@ -49,8 +49,8 @@ class Jobs(ImageCase):
 
     def ends(self, status: int, system: str, shell: list[str], job: str, image: str, released: str = "") -> None:
         """Runs the shell of a job, and checks its status."""
-        Path("job").write_text(self.said(0, ROOT / "recipes/ci/shell", ROOT / f"recipes/ci/{system}.yml", job))
-        self.said(status, *self.within, f"IMAGE={image}", f"RELEASED={released}", *shell, "job")
+        Path("job").write_text(self.runs(0, ROOT / "recipes/ci/shell", ROOT / f"recipes/ci/{system}.yml", job))
+        self.runs(status, *self.within, f"IMAGE={image}", f"RELEASED={released}", *shell, "job")
 
     def test_statuses(self) -> None:
         for system in ("github", "gitlab"):

@@ -123,11 +123,11 @@ class WithoutLibrary(ImageCase):
     def test_help(self) -> None:
         for name in PACKAGE:
             with self.subTest(name=name):
-                text = self.said(0, name, "--help", env={"LIBFV": "/missing"})
-                self.assertEqual(self.said(0, name, "-h"), text)
+                text = self.runs(0, name, "--help", env={"LIBFV": "/missing"})
+                self.assertEqual(self.runs(0, name, "-h"), text)
                 words = " ".join(text.split())
                 self.assertEqual([it for command, it in HELP if command == name and it not in words], [])
-                version = self.said(0, name, "--version", env={"LIBFV": "/missing"})
+                version = self.runs(0, name, "--version", env={"LIBFV": "/missing"})
                 self.assertEqual(version.rpartition(" ")[0], f"{name} (Capstanolive)")
 
     def test_errors_before_the_beginning(self) -> None:
@@ -175,7 +175,7 @@ class OfAll(ImageCase):
             with self.subTest(words=words):
                 said = f"{Path(words[0]).name}: standard output is closed"
                 self.expect(4, said, "bash", "-c", '"$@" >&-', "", *words)
-                self.assertEqual(self.said(0, "bash", "-c", '"$@" 2>&-', "", *words), self.said(0, *words))
+                self.assertEqual(self.runs(0, "bash", "-c", '"$@" 2>&-', "", *words), self.runs(0, *words))
 
     def test_missing_input(self) -> None:
         for name, (status, text) in MISSING.items():
@@ -187,15 +187,15 @@ class OfAll(ImageCase):
 
     def test_names_of_options(self) -> None:
         for name in PACKAGE:
-            plain = self.said(0, *self.words(name, "plain.fv"))
+            plain = self.runs(0, *self.words(name, "plain.fv"))
             for option in ("--help", "-x"):
                 shutil.copy("plain.fv", option)
                 with self.subTest(name=name, option=option):
-                    said = self.said(0, name, *BEFORE_IMAGE.get(name, ()), "--", option)
+                    said = self.runs(0, name, *BEFORE_IMAGE.get(name, ()), "--", option)
                     self.assertEqual(said, plain.replace("plain.fv", option))
 
     def test_terminal(self) -> None:
-        stored = self.said(0, ARCHIVE, "add", "store", "plain.fv").split()[0]
+        stored = self.runs(0, ARCHIVE, "add", "store", "plain.fv").split()[0]
         for what, *words in ON_TERMINAL:
             with self.subTest(words=words):
                 ours, terminal = pty.openpty()

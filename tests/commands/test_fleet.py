@@ -379,9 +379,9 @@ class SlurmTasks(ImageCase):
             Path(name).write_text("plain.fv\nfront.fv\n\ndamaged.fv\n")
         for status, number, *words in FAILED_TASKS:
             with self.subTest(words=words):
-                self.assertEqual(self.said(status, TASK, *words, env={"SLURM_ARRAY_TASK_ID": number}), "")
+                self.assertEqual(self.runs(status, TASK, *words, env={"SLURM_ARRAY_TASK_ID": number}), "")
         without = {"SLURM_ARRAY_TASK_ID": "0", "LIBFV": "/missing/libfv.so.2"}
-        self.said(4, TASK, "list", "parts", "2", env=without)
+        self.runs(4, TASK, "list", "parts", "2", env=without)
         self.assertEqual(os.listdir("parts"), [])
         Path("parts/0.tsv").touch()  # as an earlier version left it, without LIST
         for number in ("0", "1"):

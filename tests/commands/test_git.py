@@ -7,6 +7,7 @@ import os
 import re
 import shutil
 from pathlib import Path
+from unittest import mock
 
 from tests import making
 from tests.commands.room import GUIDS, ImageCase, Table
@@ -83,10 +84,12 @@ class InGit(ImageCase):
     def setUp(self) -> None:
         super().setUp()
         own = {"HOME": str(self.room), "GIT_CONFIG_NOSYSTEM": "1", "GIT_CONFIG_GLOBAL": "/dev/null", "GIT_PAGER": "cat"}
-        self.set_variables(**own)
+        patched = mock.patch.dict(os.environ, own)
+        patched.start()
+        self.addCleanup(patched.stop)
         for name in ("GIT_DIR", "GIT_WORK_TREE", "GIT_INDEX_FILE", "GIT_EXTERNAL_DIFF"):
             os.environ.pop(name, None)
-        self.said(0, "git", "init", "-q", self._testMethodName)
+        self.runs(0, "git", "init", "-q", self._testMethodName)
         os.chdir(self._testMethodName)
         self.configure(SETTINGS)
         Path(".gitattributes").write_text("*.fd diff=fv\n*.fv diff=fv\n*.bin diff=fv\n[-]* diff=fv\n")
@@ -94,7 +97,7 @@ class InGit(ImageCase):
     def configure(self, settings: dict[str, str]) -> None:
         """Sets options of the repository."""
         for name, value in settings.items():
-            self.said(0, "git", "config", name, value)
+            self.runs(0, "git", "config", name, value)
 
     def store(self, image: str, name: str) -> None:
         """Commits an image under a name, or its absence."""
@@ -102,12 +105,12 @@ class InGit(ImageCase):
             shutil.copy(self.room / image, name)
         else:
             os.unlink(name)
-        self.said(0, "git", "add", "-A")
-        self.said(0, "git", "commit", "-q", "--allow-empty", "-m", f"{image} as {name}")
+        self.runs(0, "git", "add", "-A")
+        self.runs(0, "git", "commit", "-q", "--allow-empty", "-m", f"{image} as {name}")
 
     def changed(self) -> str:
         """Returns the lines that the last commit has changed."""
-        return short(self.said(0, "git", "diff", "HEAD~", "HEAD"))
+        return short(self.runs(0, "git", "diff", "HEAD~", "HEAD"))
 
     def test_lines(self) -> None:
         for name, first, second, lines in DIFFS:
@@ -129,9 +132,9 @@ class InGit(ImageCase):
         self.store("none.bin", "volume.fv")
         self.assertIn("+no volume, 5000 bytes,", self.changed().splitlines())
         self.store("", "my flash.fd")
-        self.assertIn("-fault 11 at 72,", short(self.said(0, "git", "log", "-p")).splitlines())
+        self.assertIn("-fault 11 at 72,", short(self.runs(0, "git", "log", "-p")).splitlines())
         words = ["git", "-c", "diff.fv.cachetextconv=false", "log", "-p"]
-        self.said(128, *words, env={"LIBFV": "/missing/libfv.so.2"})
+        self.runs(128, *words, env={"LIBFV": "/missing/libfv.so.2"})
 
     def test_verdicts(self) -> None:
         self.configure({"diff.fv.command": "fv-diff"})
@@ -142,7 +145,7 @@ class InGit(ImageCase):
                 self.expect(0, text.replace("\n", "\n  "), "git", "diff", "HEAD~", "HEAD")
         self.store("plain.fv", "volume.fv")
         self.store("refused.fv", "volume.fv")
-        self.assertIn("fvtool: volume.fv", self.said(0, "git", "diff", "HEAD~", "HEAD").splitlines())
+        self.assertIn("fvtool: volume.fv", self.runs(0, "git", "diff", "HEAD~", "HEAD").splitlines())
 
     def test_names_of_options(self) -> None:
         """A file in the working tree may have the name of an option."""
@@ -151,9 +154,9 @@ class InGit(ImageCase):
             with self.subTest(name=name):
                 self.store("plain.fv", name)
                 shutil.copy(self.room / "changed.fv", name)
-                lines = self.said(0, "git", "diff", "--", f":(literal){name}").splitlines()
+                lines = self.runs(0, "git", "diff", "--", f":(literal){name}").splitlines()
                 self.assertEqual(sum(bool(re.match("[-+].* sha256", it)) for it in lines), 6)
-                self.assertEqual(self.said(0, "fv-text", name), self.said(0, "fv-text", self.room / "changed.fv"))
+                self.assertEqual(self.runs(0, "fv-text", name), self.runs(0, "fv-text", self.room / "changed.fv"))
                 os.unlink(name)
 
 
@@ -166,29 +169,29 @@ class OnTheirOwn(ImageCase):
 
     def test_fixed_files(self) -> None:
         shutil.copy("fixed.fd", "-a\nb.fv")
-        lines = [re.sub(" sha256 [0-9a-f]{64}", "", it) for it in self.said(0, "fv-text", "fixed.fd").splitlines()]
+        lines = [re.sub(" sha256 [0-9a-f]{64}", "", it) for it in self.runs(0, "fv-text", "fixed.fd").splitlines()]
         self.assertIn("2 of 3 files fixed", lines)
         self.assertIn(f"  file {GUIDS[11]} type 04 attributes 28 data 924 fixed", lines)
         self.assertIn(f"  file {GUIDS[1]} type 07 attributes 00 data 3020", lines)
-        self.assertIn("2 of 3 files fixed", self.said(0, "fv-text", "-a\nb.fv").splitlines())
-        self.assertEqual(self.said(0, "fv-text", "fixed-inside.fv").count(' ui "PeiCore" '), 1)
-        opened = self.said(0, "fv-text", "--open", "firmware-fixed.fd")
+        self.assertIn("2 of 3 files fixed", self.runs(0, "fv-text", "-a\nb.fv").splitlines())
+        self.assertEqual(self.runs(0, "fv-text", "fixed-inside.fv").count(' ui "PeiCore" '), 1)
+        opened = self.runs(0, "fv-text", "--open", "firmware-fixed.fd")
         self.assertIn("2 of 3 files fixed", opened.splitlines())
         self.assertEqual((len(re.findall("^ *file ", opened, re.M)), "not opened" in opened), (13, False))
 
     def test_limits(self) -> None:
         Path("many.fd").write_bytes(making.volume([], 72) * 251)
-        self.assertEqual(len(re.findall("^volume at ", self.said(0, "fv-text", "many.fd"), re.M)), 251)
+        self.assertEqual(len(re.findall("^volume at ", self.runs(0, "fv-text", "many.fd"), re.M)), 251)
         self.expect(2, "fv-text: more than 1073741824 bytes", "fv-text", "/dev/zero")
 
     @needs_program
     def test_beside_the_program(self) -> None:
         files = [making.file(making.guid(n), making.noise(str(n), 10)) for n in range(2000)]
         Path("long.fd").write_bytes(making.volume(files, 0x20000))
-        text = self.said(0, "fv-text", "long.fd", env={"TMPDIR": "/missing"})  # which is not used
+        text = self.runs(0, "fv-text", "long.fd", env={"TMPDIR": "/missing"})  # which is not used
         self.assertEqual(len(text.splitlines()), 2003)
         for image in ("long.fd", "plain.fv", "nested.fv"):
-            listed = self.said(0, PROGRAM, "list", "--sums", image)
+            listed = self.runs(0, PROGRAM, "list", "--sums", image)
             listed = re.sub("^( *(?:file|section)) [0-9]+ ", r"\1 ", listed, flags=re.M)
-            shown = re.sub("^(?:volume at|other bytes) .*\n", "", self.said(0, "fv-text", image), flags=re.M)
+            shown = re.sub("^(?:volume at|other bytes) .*\n", "", self.runs(0, "fv-text", image), flags=re.M)
             self.assertEqual(listed, shown, image)

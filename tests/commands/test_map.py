@@ -332,7 +332,7 @@ class InChromium(MapCase):
         path.write_text(page, encoding="utf-8")
         command = [CHROMIUM, "--headless", "--no-sandbox", "--disable-gpu", "--hide-scrollbars"]
         command += [f"--user-data-dir={self.room / 'profile'}", *words, path.as_uri()]
-        return self.said(0, *command, stdin=subprocess.DEVNULL, timeout=120, encoding="utf-8")
+        return self.runs(0, *command, stdin=subprocess.DEVNULL, timeout=120, encoding="utf-8")
 
     def title(self, page: str, *words: str) -> Any:
         """Returns the JSON text that a script writes into the title of a page."""

@@ -13,11 +13,10 @@ from typing import Any
 from tests import making
 from tests.commands.room import AAVMF, EDK2_PATH, GUIDS, OVMF, ImageCase, Table, needs_edk2
 from tests.frame import needs_firmware, needs_library
-from tests.making import GONE, LZMA, PE32, RAW, UNKNOWN, VOLUME, VOLUME_IMAGE, A, B, C, D, compressed, file, flash
+from tests.making import GONE, PE32, RAW, TIANO, UNKNOWN, VOLUME, VOLUME_IMAGE, A, B, C, D, compressed, file, flash
 from tests.making import guid, guided, noise, pad, section, stream, ui, volume
 
 ALPHA, BETA, CORE = f'{GUIDS[1]} "Alpha"', f'{GUIDS[2]} "Beta"', f'{GUIDS[11]} "PeiCore"'
-TIANO = uuid.UUID("a31280ad-481e-41b6-95e8-127f4c984779")
 SAME_INSIDE = "packed in another way, what it holds is the same"
 
 
@@ -112,18 +111,13 @@ VERDICTS: Table = (
 
 
 CODE, OTHER_CODE = (section(PE32, noise(it, 400)) for it in ("own", "other"))
+OTHER_WAY: list[dict[str, Any]] = [{"id": lzma.FILTER_LZMA1, "preset": 9, "lc": 2}]
 OWN, PACKED, OTHER_PACKED = ui("Own"), compressed(stream(CODE, ui("Own"))), compressed(stream(OTHER_CODE, ui("Own")))
 
 
 def holding(data: bytes, number: int = 6) -> bytes:
     """Returns a file that holds volumes."""
     return file(guid(number), stream(data), VOLUME_IMAGE)
-
-
-def slowly(data: bytes) -> bytes:
-    """Returns a section with data that are compressed by LZMA with other settings."""
-    chain: list[dict[str, Any]] = [{"id": lzma.FILTER_LZMA1, "preset": 9, "lc": 2}]
-    return guided(LZMA, lzma.compress(data, format=lzma.FORMAT_ALONE, filters=chain))
 
 
 def by_tiano(code: bytes) -> bytes:
@@ -139,7 +133,7 @@ def twice(packed: bytes) -> bytes:
 # Sections of a file, and the lines about what is in them: other compressions, a driver that is compressed by itself,
 # and sections that are not opened.
 PACKED_PAIRS: tuple[tuple[str, list[str], bytes, bytes], ...] = (
-    ("0 body", [f"LZMA: {SAME_INSIDE}"], compressed(making.inside()), slowly(making.inside())),
+    ("0 body", [f"LZMA: {SAME_INSIDE}"], compressed(making.inside()), compressed(making.inside(), OTHER_WAY)),
     ("0 body Own", ["LZMA: other sections: PE32"], PACKED, OTHER_PACKED),
     ("0 body Own", [f"Tiano compression in place of LZMA: {SAME_INSIDE}"], PACKED, by_tiano(CODE)),
     ("0 body Own", ["Tiano compression: other sections: PE32"], PACKED, by_tiano(OTHER_CODE)),
@@ -258,13 +252,13 @@ class Same(ImageCase):
         text = f"{MAIN}\n    LZMA: {SAME_INSIDE}{in_packed}"
         first, second = ([holding(compressed(it), 7), C] for it in (HELD, OTHER_HELD))
         self.expect_of(1, text, flash(volume(first)), flash(volume(second)), ["--open"])
-        lines = self.said(0, "fv-same", "many.fd", "few.fd").splitlines()
+        lines = self.runs(0, "fv-same", "many.fd", "few.fd").splitlines()
         self.assertEqual((len(lines), lines[-1]), (22, "bytes outside the meaning differ at 5 more places"))
 
     def test_json(self) -> None:
         for status, words, wanted in JSON:
             with self.subTest(words=words):
-                found = json.loads(self.said(status, "fv-same", "--json", *words))
+                found = json.loads(self.runs(status, "fv-same", "--json", *words))
                 self.assertEqual({path: value_at(found, path) for path in wanted}, wanted)
 
 
@@ -274,7 +268,7 @@ class OfDebian(ImageCase):
 
     @needs_firmware("ovmf")
     def test_ovmf(self) -> None:
-        lines = self.said(1, "fv-same", "--open", OVMF, OVMF.with_name("OVMF_CODE_4M.secboot.fd")).splitlines()
+        lines = self.runs(1, "fv-same", "--open", OVMF, OVMF.with_name("OVMF_CODE_4M.secboot.fd")).splitlines()
         self.assertIn("  changed: 9e21fd93-9c72-4c15-8c4b-e77f1db2d792 (FVMAIN_COMPACT file)", lines)
         self.assertIn('      only in the second: 34c8c28f-b61c-45a2-8f2e-89e46becc63b "PeiVariable"', lines)
         self.assertIn('      changed: 6d33944a-ec75-4855-a54d-809c75241f6c "BdsDxe"', lines)
@@ -287,7 +281,7 @@ class OfDebian(ImageCase):
         data[start + 19] -= 4  # the attributes of the first file
         data[start + 16] = (data[start + 16] + 4) % 256  # the checksum of its header
         Path("aavmf.fd").write_bytes(data)
-        lines = self.said(1, "fv-same", AAVMF, "aavmf.fd").splitlines()
+        lines = self.runs(1, "fv-same", AAVMF, "aavmf.fd").splitlines()
         self.assertEqual(lines[:2], ["different", "volume at 4096: different at file 0 attributes"])
         self.assertEqual(len(lines), 3)
 
@@ -311,15 +305,15 @@ class OfEdk2(ImageCase):
         """Makes a file with one section."""
         Path(f"{name}.bin").write_bytes(data)
         env = {"PATH": EDK2_PATH}
-        self.said(0, "GenSec", "-s", "EFI_SECTION_RAW", "-o", f"{name}.sec", f"{name}.bin", env=env)
+        self.runs(0, "GenSec", "-s", "EFI_SECTION_RAW", "-o", f"{name}.sec", f"{name}.bin", env=env)
         words = ["-t", "EFI_FV_FILETYPE_FREEFORM", "-g", "11111111-1111-4111-8111-111111111111".replace("1", digit)]
-        self.said(0, "GenFfs", *words, "-o", f"{name}.ffs", "-i", f"{name}.sec", env=env)
+        self.runs(0, "GenFfs", *words, "-o", f"{name}.ffs", "-i", f"{name}.sec", env=env)
 
     def make_volume(self, name: str, files: str) -> None:
         """Makes a volume of these files. The file `d` is then marked as deleted, except in the volume `more`."""
         Path("it.inf").write_text(INF + "".join(f"EFI_FILE_NAME = {it}.ffs\n" for it in files))
         words = ["-i", "it.inf", "-o", f"{name}.fv", "-g", str(uuid.UUID(bytes_le=making.FFS2))]
-        self.said(0, "GenFv", *words, env={"PATH": EDK2_PATH})
+        self.runs(0, "GenFv", *words, env={"PATH": EDK2_PATH})
         data = bytearray(Path(f"{name}.fv").read_bytes())
         at = data.find(uuid.UUID("44444444-4444-4444-8444-444444444444").bytes_le)
         if at >= 0 and name != "more":
@@ -339,5 +333,5 @@ class OfEdk2(ImageCase):
         for status, verdict, others in ((0, "same", list(ways)), (1, "different", ["more", "order", "changed"])):
             for other in others:
                 with self.subTest(other=other):
-                    said = self.said(status, "fv-same", "plain.fv", f"{other}.fv")
+                    said = self.runs(status, "fv-same", "plain.fv", f"{other}.fv")
                     self.assertEqual(said.splitlines()[0], verdict)

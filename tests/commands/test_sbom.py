@@ -35,8 +35,8 @@ class Bill(ImageCase):
 
     def bill(self, status: int, image: str) -> Any:
         """Returns the bill of an image, which two runs write with the same bytes."""
-        text = self.said(status, "fv-sbom", image)
-        self.assertEqual(self.said(status, "fv-sbom", image), text)
+        text = self.runs(status, "fv-sbom", image)
+        self.assertEqual(self.runs(status, "fv-sbom", image), text)
         return json.loads(text)
 
     def unread(self, status: int, image: str) -> list[dict[str, Any]]:
@@ -44,7 +44,7 @@ class Bill(ImageCase):
         return [it for it in self.bill(status, image)["components"] if it["type"] == "file"]
 
     def test_components(self) -> None:
-        self.said(0, "fv-unpack", "plain.fd", "plain")
+        self.runs(0, "fv-unpack", "plain.fd", "plain")
         parts, bill = {it["path"]: it for it in rows_of("plain")}, self.bill(0, "plain.fd")
         found = {it["bom-ref"]: it for it in bill["components"]}
         files = {path: it for path, it in parts.items() if it["part"] == "file"}
@@ -61,7 +61,7 @@ class Bill(ImageCase):
                 self.assertEqual(values["uefi:PE32:sha256"], parts[f"{path}pe32.efi"]["sha256"])
 
     def test_parts_that_are_not_read(self) -> None:
-        lines = map(json.loads, self.said(1, "fv-unpack", "--list", "--json", "--sums", "hidden.fd").splitlines())
+        lines = map(json.loads, self.runs(1, "fv-unpack", "--list", "--json", "--sums", "hidden.fd").splitlines())
         rows = [it for it in lines if it["part"] == "unread"]
         self.assertEqual([it["type"] for it in rows], ["pad", "volume", "deleted file"])
         self.assertEqual(rows[2]["guid"], "00000009-7777-4777-8777-777777777777")

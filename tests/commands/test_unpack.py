@@ -23,7 +23,7 @@ from fv import unpack
 from fv._parts import Digests
 from fv.images import Part
 from fv.limits import Budget, Full, Limits
-from fv.names import COMPRESSION, GUIDED
+from fv.names import GUIDED
 from fv.opened import Closed, open_section
 
 from tests import making
@@ -94,15 +94,11 @@ MADE: Table = (
      volume([file(guid(4), b"old", attributes=making.FIXED, state=0x0F), file(guid(4), b"new"), A]), (7, 4)),
     (2, ["00-volume: volume at 0x0: fault 14 at 8089: the data of a file are damaged: the file checksum is wrong"],
      volume([*making.fixed(), SUMMED[:17] + bytes([SUMMED[17] ^ 1]) + SUMMED[18:]])),
-    # Volumes whose header is wrong, of an older revision or file system, or cut short; and a variable store.
+    # Volumes whose header is wrong, or of an older revision; and a variable store.
     (1, [TWO, GAP, "volume-00002000.bin: not read: fault 6 at 8192: the header of a volume is damaged: its checksum is"
                    " wrong"], PAIR + changed(50, b"\x12\x34")),
     (1, [TWO, GAP, "volume-of-revision-1-00002000.bin: not read: fault 4 at 8247: the header of a volume is damaged, or"
                    " its revision is not 2"], PAIR + changed(55, b"\1")),
-    (1, [TWO, GAP, f"ffs1-volume-00002000.bin: not read: fault 3 at 8208: {SYSTEM}"],
-     PAIR + changed(16, uuid.UUID("7a9354d9-0468-444a-81ce-0bf617d890df").bytes_le)),
-    (1, [TWO, GAP, "volume-00002000.bin: not read: fault 1 at 16376: the bytes end before the volume does"],
-     PAIR + PAIR[:-8]),
     (1, ["00-volume: volume at 0x2000: 2 files", GAP.replace("2", "0"),
          f"variable-store-00000000.bin: not read: fault 3 at 16: {SYSTEM}"], STORE + PAIR),
     # A volume in a raw file, a section whose checksum is wrong, and bytes outside of volumes.
@@ -172,6 +168,7 @@ BESIDE = ["ovmf/OVMF.fd", "OVMF/OVMF32_CODE_4M.secboot.fd", "OVMF/OVMF_CODE.secb
 REPORTED = re.compile(r" (File|Section) +\| (.{21}) \| .{8} \| (.{8}) \| .{8} \| -+ (\S+)")
 HEADERS = {"file": (24, 32), "section": (4, 8)}  # lengths of short and of long headers
 Found = tuple[str, str, int]  # the kind, the GUID and the size of a part
+PACKED_ZEROS = lzma.compress(bytes(5000), format=lzma.FORMAT_ALONE)
 GUIDED_BY_GENSEC = ("GenSec", "-s", "EFI_SECTION_GUID_DEFINED")
 ROW = ("path", "offset", "in", "part", "type", "guid", "name", "size", "sha256", "note")
 
@@ -309,7 +306,7 @@ class Unpack(PartsCase):
                 self.expect(status, "\n".join(lines), "fv-unpack", "--", image, folder)
                 found = self.agrees(image, folder)
                 self.assertIn(found, counts or [found])
-                bill = json.loads(self.said(status, "fv-sbom", "--", image))
+                bill = json.loads(self.runs(status, "fv-sbom", "--", image))
                 self.assertEqual(bill["compositions"][0]["aggregate"], "incomplete" if status else "complete")
 
     def test_names_and_places(self) -> None:
@@ -380,7 +377,7 @@ class Unpack(PartsCase):
         self.assertEqual(self.agrees("plain.fv", "empty"), (9, 5))
         self.expect(0, PLAIN, "fv-unpack", "../plain.fv", ".", cwd="here")
         self.assertEqual(sorted(os.listdir("here")), ["00-volume", "index.tsv"])
-        self.said(1, "fv-unpack", "firmware.fd", "modes", umask=0o022)
+        self.runs(1, "fv-unpack", "firmware.fd", "modes", umask=0o022)
         self.assertEqual([os.stat(it).st_mode & 0o777 for it in ("modes", "modes/index.tsv")], [0o755, 0o644])
 
     def test_links_in_the_place_of_folders(self) -> None:
@@ -405,16 +402,16 @@ class Unpack(PartsCase):
         self.assertLessEqual(sum(it.stat().st_size for it in files_in("few-rows").values()), 1_000_000)
 
     def test_list(self) -> None:
-        self.assertEqual("".join(self.said(0, "fv-unpack", "--list", "plain.fv").splitlines(True)[:5]), LIST)
+        self.assertEqual("".join(self.runs(0, "fv-unpack", "--list", "plain.fv").splitlines(True)[:5]), LIST)
         rows, words = self.rows("firmware.fd"), ["fv-unpack", "--list", "firmware.fd"]
-        table = self.said(1, *words).splitlines()
+        table = self.runs(1, *words).splitlines()
         self.assertIn("  +0x80   8192  FFS2          01-volume/", table)
         paths = re.findall(r"^.*  ([0-9o][^ \n]*)(?:  .*)?$", "\n".join(table), re.M)
         self.assertEqual(paths, [it["path"] for it in rows])
-        self.assertEqual(len(self.said(0, "fv-unpack", "--list", "files.fd").splitlines()), 5104)
-        lines = list(map(json.loads, self.said(1, *words, "--sums", "--json").splitlines()))
+        self.assertEqual(len(self.runs(0, "fv-unpack", "--list", "files.fd").splitlines()), 5104)
+        lines = list(map(json.loads, self.runs(1, *words, "--sums", "--json").splitlines()))
         self.assertEqual([{**it, "offset": hex(it["offset"]), "size": str(it["size"])} for it in lines], rows)
-        sums = self.said(1, *words, "--sums").splitlines()[1:]
+        sums = self.runs(1, *words, "--sums").splitlines()[1:]
         self.assertTrue(len(rows) == 43 and all(it["sha256"] in line for it, line in zip(rows, sums, strict=True)))
 
     def test_names_are_not_paths_or_formulas(self) -> None:
@@ -424,7 +421,7 @@ class Unpack(PartsCase):
         self.assertIn(name, [it["name"] for it in self.rows("texts.fd")])
         found = [it["name"] for it in self.rows("formula.fv") if it["part"] == "file"]
         self.assertEqual(found, ["'" + it for it in FORMULAS[:4]] + ["a=b"])
-        line = self.said(0, "fv-unpack", "--list", "--json", "formula.fv").splitlines()[1]
+        line = self.runs(0, "fv-unpack", "--list", "--json", "formula.fv").splitlines()[1]
         self.assertEqual(json.loads(line)["name"], FORMULAS[0])
 
     def test_long_texts_are_cut(self) -> None:
@@ -439,7 +436,7 @@ class Unpack(PartsCase):
             with self.subTest(part=part):
                 body = self.output(0, "fv-unpack", "--only", part, "firmware.fd")
                 self.assertEqual(hashlib.sha256(body).hexdigest(), sums[path])
-        self.assertEqual(self.said(0, "fv-unpack", "--only", f"{GUIDS[8]}/DXE-depex", "named.fv"), "\6\10")
+        self.assertEqual(self.runs(0, "fv-unpack", "--only", f"{GUIDS[8]}/DXE-depex", "named.fv"), "\6\10")
         for words in (["Alpha/PE32", "plain.fv", "alpha.efi"], [GUIDS[9], "named.fv", "named"]):
             self.expect(0, "", "fv-unpack", "--only", *words)
         self.assertEqual(Path("named").read_bytes(), Path("named.fv").read_bytes())
@@ -458,33 +455,23 @@ class Unpack(PartsCase):
 class Limited(unittest.TestCase):
     """The opening of one section, and the limit for digests."""
 
-    def opened(self, kind: int, header: int, data: bytes, **limits: int) -> str:
-        """Returns how a section was opened, and the length of its contents, or why it was not opened."""
+    def opened(self, header: int, offset: int, extra: int = 0, **limits: int) -> str:
+        """Returns how a section was opened whose LZMA data begin at an offset that counts from its header, or why
+        not."""
+        data = LZMA.bytes_le + struct.pack("<HH", offset, 1) + bytes(extra) + PACKED_ZEROS
         try:
-            way, found, _ = open_section(kind, header, data, Budget(Limits(**limits), 0))
+            way, found, _ = open_section(GUIDED, header, data, Budget(Limits(**limits), 0))
             return f"{way.name} {len(found)}"
         except (Closed, Full) as reason:
-            return f"{type(reason).__name__}: {reason}"
-
-    def guided(self, header: int, offset: int, extra: int = 0, **limits: int) -> str:
-        """Returns the same for a section of LZMA data, which begin at an offset that counts from its header."""
-        packed = lzma.compress(bytes(5000), format=lzma.FORMAT_ALONE)
-        head = LZMA.bytes_le + struct.pack("<HH", offset, 1) + bytes(extra)
-        return self.opened(GUIDED, header, head + packed, **limits)
+            return str(reason)
 
     def test_sections(self) -> None:
-        self.assertEqual(self.opened(COMPRESSION, 4, struct.pack("<IB", 4, 0) + b"data"), "stored 4")
-        for wanted, found in (
-            ("LZMA 5000", self.guided(4, 24)),
-            ("LZMA 5000", self.guided(8, 28)),
-            ("LZMA 5000", self.guided(4, 31, 7)),
-            ("Closed: LZMA: more than 4999 bytes", self.guided(4, 24, section=4999)),
-            ("Closed: DataOffset 23", self.guided(4, 23)),
-            ("Closed: DataOffset 300", self.guided(4, 300)),
-            ("Full: 4999 bytes", self.guided(4, 24, total=4999)),
-            ("Full: 0 sections", self.guided(4, 24, sections=0)),
-        ):
-            self.assertEqual(found, wanted)
+        found = [self.opened(4, 24), self.opened(8, 28), self.opened(4, 31, 7)]
+        self.assertEqual(found, ["LZMA 5000"] * 3)
+        found = [self.opened(4, 23), self.opened(4, 300), self.opened(4, 24, section=4999)]
+        self.assertEqual(found, ["DataOffset 23", "DataOffset 300", "LZMA: more than 4999 bytes"])
+        found = [self.opened(4, 24, total=4999), self.opened(4, 24, sections=0)]
+        self.assertEqual(found, ["4999 bytes", "0 sections"])
 
     def test_digests(self) -> None:
         digests, part = Digests(25), Part(bytes(100), 10, 10)
@@ -499,7 +486,7 @@ class OfDebian(PartsCase):
 
     @needs_firmware("ovmf")
     def test_ovmf(self) -> None:
-        lines = self.said(1, "fv-unpack", "/usr/share/ovmf/OVMF.fd", "ovmf").splitlines()
+        lines = self.runs(1, "fv-unpack", "/usr/share/ovmf/OVMF.fd", "ovmf").splitlines()
         self.assertIn(f"variable-store-00000000.bin: not read: fault 3 at 16: {SYSTEM}", lines)
         inner = "02-DXEFV: volume at 0xe0090 in 00-FVMAIN_COMPACT/000-FVMAIN_COMPACT_file/lzma/: 113 files"
         self.assertIn(inner, lines)
@@ -552,10 +539,10 @@ class OfEdk2(ImageCase):
             ["GenSec", "-s", "EFI_SECTION_COMPRESSION", "-c", "PI_NONE", "-o", "4.sec", "code.sec"],
             ["GenSec", "-s", "EFI_SECTION_COMPRESSION", "-c", "PI_STD", "-o", "5.sec", "code.sec"],
         ):
-            self.said(0, *words, env={"PATH": EDK2_PATH})
+            self.runs(0, *words, env={"PATH": EDK2_PATH})
         parts = [Path(f"{number}.sec").read_bytes() for number in range(1, 6)]
         Path("edk2.fv").write_bytes(volume([file(guid(1), stream(*parts), FREEFORM)], 0x40000))
-        self.said(0, "fv-unpack", "edk2.fv", "edk2")
+        self.runs(0, "fv-unpack", "edk2.fv", "edk2")
         found = {path: it.read_bytes() for path, it in files_in("edk2").items() if path.endswith("/raw.bin")}
         folders = sorted(Path(it).parent.name for it in found)
         self.assertEqual(folders, ["crc32", "lzma", "lzma-x86", "stored", "uefi"])
