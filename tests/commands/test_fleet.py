@@ -24,9 +24,10 @@ import sys
 import time
 import unittest
 from collections import Counter
-from collections.abc import Callable, Iterator
+from collections.abc import Callable, Collection, Iterator
 from dataclasses import dataclass
 from pathlib import Path
+from typing import TypeVar
 
 from tests import making
 from tests.checks import ROOT, read
@@ -37,6 +38,7 @@ FOLDER = ROOT / "recipes/fleet"
 TASK = FOLDER / "fv-array.sh"
 COUNT, IS_KILLED = int(os.environ.get("FLEET_IMAGES", "1000")), os.environ.get("FLEET_KILL") != "no"
 IS_LONG = COUNT > 1000
+Found = TypeVar("Found")
 BATCH = 100  # images of a batch in README's commands
 ROOM, MACHINE = "FLEET_ROOM", "FLEET_MACHINE"  # variables of the processes of a run, and of one machine
 HELD = making.volume([], 72)  # the contents of the image that a run waits for
@@ -175,12 +177,13 @@ class Engines(RoomCase):
         """Returns the end of the output that programs have written in addition to the lines."""
         return Path("said").read_text(errors="replace")[-2000:]
 
-    def wait_for(self, what: Callable[[], object], why: str, seconds: float = 60, every: float = 0.002) -> None:
-        """Waits until something is the case."""
+    def wait_for(self, what: Callable[[], Found], why: str, seconds: float = 60, every: float = 0.002) -> Found:
+        """Waits until something is the case, and returns it."""
         end = time.monotonic() + seconds
-        while not what():
+        while not (found := what()):
             self.assertLess(time.monotonic(), end, f"{why}: {self.said()}")
             time.sleep(every)
+        return found
 
     def ends(self, running: subprocess.Popen[bytes], *statuses: int) -> None:
         """Waits for the end of a command, which must have one of these statuses, or 0 if none is given."""
@@ -210,21 +213,17 @@ class Engines(RoomCase):
         """Kills the `fv-check` that waits for the held image, once a quarter of the lines is written. Returns its
         number."""
         self.wait_for_quarter()
-        found = self.holders(set())
-        self.kill(found)
+        self.kill(found := self.holders())
         return {it.number for it in found}
 
-    def holders(self, killed: set[int]) -> list[Process]:
+    def holders(self, killed: Collection[int] = ()) -> list[Process]:
         """Waits until an `fv-check`, except the killed ones, has the held image among its arguments. Returns it."""
-        found: list[Process] = []
 
-        def is_there() -> bool:
+        def found() -> list[Process]:
             workers = (it for it in self.processes() if re.search("(?:^|[/\0])fv-check\0", it.words))
-            found[:] = [it for it in workers if f"\0{self.held}\0" in it.words and it.number not in killed]
-            return bool(found)
+            return [it for it in workers if f"\0{self.held}\0" in it.words and it.number not in killed]
 
-        self.wait_for(is_there, "no worker has the held image")
-        return found
+        return self.wait_for(found, "no worker has the held image")
 
     def let_go(self) -> None:
         """Checks that the run was killed before its end, and makes the held image a file. A worker that still waits for
@@ -301,8 +300,7 @@ class Engines(RoomCase):
         for machine in ("w1", "w2"):
             self.start(f"slurmd -D -N {machine}", machine)
         words = ["sinfo", "-h", "-t", "idle", "-o", "%D"]
-        idle = "2\n"  # machines
-        self.wait_for(lambda: self.run_command(*words, env=self.variables).stdout == idle, "no machines", every=0.1)
+        self.wait_for(lambda: self.run_command(*words, env=self.variables).stdout == "2\n", "no machines", every=0.1)
         self.began = seconds()
 
     @needs("slurmctld", "slurmd", "sbatch")
@@ -316,8 +314,7 @@ class Engines(RoomCase):
         running = self.start(check)
         if IS_KILLED and IS_LONG:
             self.wait_for_quarter()
-            self.wait_for(lambda: self.processes(SLURMD_NODENAME="w2"), "no task on w2")
-            tasks = self.processes(SLURMD_NODENAME="w2")
+            tasks = self.wait_for(lambda: self.processes(SLURMD_NODENAME="w2"), "no task on w2")
             # slurmstepd, which has overwritten its environment, would report the end of its task. It is killed first.
             parents = {task.parent for task in tasks}
             steps = [step for step in processes() if step.number in parents and "slurmstepd" in step.words]
