@@ -348,7 +348,6 @@ class Engines(RoomCase):
         self.check()
 
 
-NO_TASK = "fv-array.sh: SLURM_ARRAY_TASK_ID is not the number of a task"
 # The status of a Slurm task that must write no file, its number, and its arguments.
 FAILED_TASKS = (
     (1, "0", "missing", "parts", "2"),
