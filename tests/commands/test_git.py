@@ -63,10 +63,9 @@ VERDICTS = (
 DIFF: Table = (
     (0, "fvtool: a\\u000ab\\u001b[2J\\u202e is not merged", "a\nb\033[2J\u202e"),
     (0, "fvtool: -x is not merged", "-x"),
-    # With two arguments it does what fv-same does, with its statuses.
+    # With two arguments it does what fv-same does.
     (0, "same" + LATER_PADS, "plain.fv", "middle.fv"),
     (1, BETA_CHANGED, "plain.fv", "changed.fv"),
-    (2, "fv-diff: missing: no such file\nmissing: fault 25 at 0", "plain.fv", "missing"),
 )
 
 

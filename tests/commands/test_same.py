@@ -100,10 +100,8 @@ VERDICTS: Table = (
     # A compressed driver: the output names the file, and with --open the driver.
     (1, MAIN, "firmware.fd", "firmware-changed.fd"),
     (1, f"{MAIN}\n{IN_MAIN}", "--open", "firmware.fd", "firmware-changed.fd"),
-    # A line feed in a name does not begin a line. After `--`, a name that begins with a hyphen is not an option.
+    # A line feed in a name does not begin a line.
     (1, f"fv-same: a\\u000asame {NONE}", "a\nsame", "plain.fv"),
-    (0, "same" + gone(0, "second", 72), "--", "--hex", "front.fv"),
-    (0, "same", "--", "--open", "--hex"),
     # Inputs that give no verdict.
     (2, "fv-same: .: is a directory\n.: fault 25 at 0", ".", "plain.fv"),
     (2, "not compared: more than 1073741824 bytes", "/dev/zero", "plain.fv"),
@@ -220,8 +218,6 @@ class Same(ImageCase):
             "many.fd": flash(volume([A, *many, B, C])),
             "few.fd": flash(volume([A, B, C])),
             "a\nsame": made["none.bin"],
-            "--hex": made["plain.fv"],
-            "--open": made["plain.fv"],
         }
 
     def expect_of(self, status: int, text: str, first: bytes, second: bytes, options: Sequence[str] = ()) -> None:

@@ -53,8 +53,8 @@ def changed(at: int, new: bytes) -> bytes:
 
 
 STORE = changed(16, uuid.UUID("fff12b8d-7696-4c8b-a985-2747075b4f50").bytes_le)
-# Images that are unpacked: the status of fv-unpack and of fv-sbom, the lines, the name, and the numbers of rows in the
-# index and of other files.
+# Images that are unpacked: the status of fv-unpack and of fv-sbom, the lines, the name or the bytes, and the numbers of
+# rows in the index and of other files.
 UNPACKED: Table = (
     # The drivers of one volume are compressed together. The second volume inside does not begin at a multiple of 8.
     (1, ["00-volume: volume at 0x1000: 1 files", f"01-volume: volume at 0x80 in {MAIN}: 3 files",
@@ -67,7 +67,6 @@ UNPACKED: Table = (
          f"{OTHER}guid-defined-3.bin: not opened: no GUID-defined header"], "deep.fd", (15, 7)),
     (2, [f"00-volume: volume at 0x1000: {DAMAGED}", SMALL], "damaged.fd", (4, 2)),
     (0, [PLAIN], "plain.fv", (9, 5)),
-    (0, [PLAIN], "--most", (9, 5)),
     (0, ["00-volume: volume at 0x1000: 3 files, 2 of them fixed", SMALL], "fixed.fd", (12, 6)),
     (0, ["00-volume: volume at 0x1000: 2 files, 1 of them fixed", SMALL], "refused.fd"),
     (0, [TWO, "01-volume: volume at 0x64: 3 files, 2 of them fixed"], "fixed-inside.fv", (13, 6)),
@@ -80,9 +79,6 @@ UNPACKED: Table = (
     (0, [TWO], "cores.fv"),
     (1, [TWO, "00-volume/pad-00000c48.bin: not read: a pad holds bytes", f"00-volume/volume-00000c50.bin: {INSIDE}",
          "00-volume/deleted-file-00001c50.bin: not read: it was deleted"], "hidden.fd"),
-)  # fmt: skip
-# The same for further images, with their bytes in place of their names.
-MADE: Table = (
     # A volume that is not at a multiple of 8, as after the header of a capsule.
     (0, ["00-volume: volume at 0x1c: 3 files"], bytes(28) + volume([A, B, C]), (9, 5)),
     # Fixed files in opened contents and in a section there; one that is superseded; and a fault after fixed files.
@@ -101,8 +97,7 @@ MADE: Table = (
                    " its revision is not 2"], PAIR + changed(55, b"\1")),
     (1, ["00-volume: volume at 0x2000: 2 files", GAP.replace("2", "0"),
          f"variable-store-00000000.bin: not read: fault 3 at 16: {SYSTEM}"], STORE + PAIR),
-    # A volume in a raw file, a section whose checksum is wrong, and bytes outside of volumes.
-    (1, [TWO, f"00-volume/volume-00000c48.bin: {INSIDE}"], volume([A, file(guid(9), PAIR)])),
+    # A section whose checksum is wrong, and bytes outside of volumes.
     (1, [TWO, f"{OTHER}crc32/: opened, but the CRC32 is wrong"],
      volume([A, file(guid(9), making.checked(section(RAW, b"data"), 1), FREEFORM)])),
     (1, [TWO, GAP], PAIR + bytes(64) + b"text" + bytes(60)),
@@ -208,7 +203,6 @@ def small_images() -> dict[str, bytes]:
         "only-store.fd": STORE + b"\xff" * 64,
         "hidden.fd": HIDDEN,
         "twice.fd": volume([A, B, C]) * 2,
-        "--most": volume([A, B, C]),
     }
 
 
@@ -296,7 +290,7 @@ class Unpack(PartsCase):
         return large_images() | small_images()
 
     def test_folder_and_bill(self) -> None:
-        for status, lines, image, *counts in (*UNPACKED, *MADE):
+        for status, lines, image, *counts in UNPACKED:
             with self.subTest(lines=lines):
                 if isinstance(image, bytes):
                     Path("it.fd").write_bytes(image)
