@@ -25,10 +25,10 @@ Row = dict[str, str]  # of the index that fv-unpack writes
 GUIDS = tuple(map(str, map(making.guid, range(16))))  # the names of made files
 
 
-def needs_edk2(*tools: str) -> Callable[[Tests], Tests]:
-    """Skips a test if one of EDK II's tools is missing."""
-    is_there = all(shutil.which(tool, path=EDK2_PATH) for tool in tools)
-    return unittest.skipUnless(is_there, f"no {' or '.join(tools)} of EDK II (EDK2_BIN)")
+def needs(*tools: str, path: str = EDK2_PATH, of: str = " of EDK II (EDK2_BIN)") -> Callable[[Tests], Tests]:
+    """Skips a test if one of some tools is missing in a path, by default EDK II's tools."""
+    is_there = all(shutil.which(tool, path=path) for tool in tools)
+    return unittest.skipUnless(is_there, f"no {' or '.join(tools)}{of}")
 
 
 def rows_of(folder: str | Path) -> list[Row]:

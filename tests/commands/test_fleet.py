@@ -11,6 +11,7 @@ FLEET_KILL=no nothing is killed, to measure."""
 from __future__ import annotations
 
 import contextlib
+import functools
 import getpass
 import os
 import random
@@ -22,7 +23,6 @@ import socket
 import subprocess
 import sys
 import time
-import unittest
 from collections import Counter
 from collections.abc import Callable, Collection, Iterator
 from dataclasses import dataclass
@@ -31,8 +31,8 @@ from typing import TypeVar
 
 from tests import making
 from tests.checks import ROOT, read
-from tests.commands.room import ImageCase
-from tests.frame import LIBRARY, RoomCase, Tests, needs_library
+from tests.commands.room import ImageCase, needs
+from tests.frame import LIBRARY, RoomCase, needs_library
 
 FOLDER = ROOT / "recipes/fleet"
 TASK = FOLDER / "fv-array.sh"
@@ -43,6 +43,7 @@ BATCH = 100  # images of a batch in README's commands
 ROOM, MACHINE = "FLEET_ROOM", "FLEET_MACHINE"  # variables of the processes of a run, and of one machine
 HELD = making.volume([], 72)  # the contents of the image that a run waits for
 PATH = f"{os.environ['PATH']}:{FOLDER}:/usr/sbin"
+needs_engine = functools.partial(needs, path=PATH, of="")
 # Two workers in each engine: nproc prints OMP_NUM_THREADS, and GNU parallel reads PARALLEL.
 TWO_WORKERS = {"OMP_NUM_THREADS": "2", "PARALLEL": "--will-cite --jobs 2"}
 SLURM = """ClusterName=fleet
@@ -65,11 +66,6 @@ NodeName=w1 NodeHostname={host} NodeAddr=127.0.0.1 Port={ports[1]} CPUs=1
 NodeName=w2 NodeHostname={host} NodeAddr=127.0.0.1 Port={ports[2]} CPUs=1
 PartitionName=all Nodes=w1,w2 Default=YES MaxTime=INFINITE State=UP
 """
-
-
-def needs(*tools: str) -> Callable[[Tests], Tests]:
-    """Skips the run with an engine if one of its programs is not installed."""
-    return unittest.skipUnless(all(shutil.which(it, path=PATH) for it in tools), f"no {' or '.join(tools)}")
 
 
 def made_images(size: int) -> Iterator[tuple[bytes, str]]:
@@ -260,7 +256,7 @@ class Engines(RoomCase):
         self.ends(running)
         self.check()
 
-    @needs("xargs")
+    @needs_engine("xargs")
     def test_xargs(self) -> None:
         """Kills a worker. Then xargs ends, and the images without a line are its next list."""
         command, left = readme("xargs")
@@ -274,7 +270,7 @@ class Engines(RoomCase):
         self.ends(running)
         self.check()
 
-    @needs("parallel")
+    @needs_engine("parallel")
     def test_parallel(self) -> None:
         """Kills a worker, whose batch GNU parallel gives to another worker, and then kills GNU parallel itself. The
         same command then does the jobs that are not in its log."""
@@ -303,7 +299,7 @@ class Engines(RoomCase):
         self.wait_for(lambda: self.run_command(*words, env=self.variables).stdout == "2\n", "no machines", every=0.1)
         self.began = seconds()
 
-    @needs("slurmctld", "slurmd", "sbatch")
+    @needs_engine("slurmctld", "slurmd", "sbatch")
     def test_slurm(self) -> None:
         """Kills a machine in a long run, so that Slurm gives its task to the other machine. In a short run, kills only
         a task. This task has then failed, and the same command does the tasks that have no file."""
@@ -329,7 +325,7 @@ class Engines(RoomCase):
         self.ends(self.start(gather))
         self.check()
 
-    @needs("dask-scheduler", "dask-worker")
+    @needs_engine("dask-scheduler", "dask-worker")
     def test_dask(self) -> None:
         """Kills a machine. dask gives its images to the other machine."""
         self.variables["PATH"] = f"{Path(shutil.which('dask-worker') or '').parent}:{PATH}"  # its Python too

@@ -11,7 +11,7 @@ from pathlib import Path
 from typing import Any
 
 from tests import making
-from tests.commands.room import AAVMF, EDK2_PATH, GUIDS, OVMF, ImageCase, Table, needs_edk2
+from tests.commands.room import AAVMF, EDK2_PATH, GUIDS, OVMF, ImageCase, Table, needs
 from tests.frame import needs_firmware, needs_library
 from tests.making import GONE, PE32, RAW, TIANO, UNKNOWN, VOLUME, VOLUME_IMAGE, A, B, C, D, compressed, file, flash
 from tests.making import guid, guided, noise, pad, section, stream, ui, volume
@@ -292,7 +292,7 @@ EFI_ERASE_POLARITY = 1
 
 
 @needs_library
-@needs_edk2("GenSec", "GenFfs", "GenFv")
+@needs("GenSec", "GenFfs", "GenFv")
 class OfEdk2(ImageCase):
     """Volumes of EDK II's own tools: three files, stored in four ways with a file that is marked as deleted in place,
     as a flash driver does it, and three volumes with another meaning."""

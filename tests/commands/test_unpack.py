@@ -28,7 +28,7 @@ from fv.opened import Closed, open_section
 
 from tests import making
 from tests.checks import ROOT, read
-from tests.commands.room import AAVMF, EDK2_PATH, GUIDS, ImageCase, Row, Table, needs_edk2, rows_of
+from tests.commands.room import AAVMF, EDK2_PATH, GUIDS, ImageCase, Row, Table, needs, rows_of
 from tests.frame import PROGRAM, needs_firmware, needs_library, needs_program, needs_tool
 from tests.making import DXE_DRIVER, FREEFORM, LZMA, RAW, SECURITY_CORE, UNKNOWN, VOLUME, A, B, C
 from tests.making import compressed, file, guid, noise, section, stream, ui, volume
@@ -165,7 +165,6 @@ HEADERS = {"file": (24, 32), "section": (4, 8)}  # lengths of short and of long 
 Found = tuple[str, str, int]  # the kind, the GUID and the size of a part
 PACKED_ZEROS = lzma.compress(bytes(5000), format=lzma.FORMAT_ALONE)
 GUIDED_BY_GENSEC = ("GenSec", "-s", "EFI_SECTION_GUID_DEFINED")
-ROW = ("path", "offset", "in", "part", "type", "guid", "name", "size", "sha256", "note")
 
 
 def large_images() -> dict[str, bytes]:
@@ -306,7 +305,7 @@ class Unpack(PartsCase):
     def test_names_and_places(self) -> None:
         rows = {it["path"]: it for it in self.rows("firmware.fd")}
         place = ["02-volume/000-Alpha/", "0x20e4", MAIN, "file", "DXE driver", GUIDS[1], "Alpha"]
-        self.assertEqual([rows["02-volume/000-Alpha/"][it] for it in ROW[:7]], place)
+        self.assertEqual([*rows["02-volume/000-Alpha/"].values()][:7], place)
         text = files_in("firmware.fd.d/02-volume/000-Alpha")["ui.bin"].read_bytes()
         self.assertEqual(text, "Alpha\0".encode("utf-16-le"))
         self.assertEqual(sorted(files_in("firmware.fd.d/03-volume/000-Own")), ["lzma/pe32.efi", "lzma/ui.bin"])
@@ -516,7 +515,7 @@ class OfDebian(PartsCase):
 
 
 @needs_library
-@needs_edk2("GenSec", "LzmaCompress")
+@needs("GenSec", "LzmaCompress")
 class OfEdk2(ImageCase):
     """Sections that EDK II's own tools compress."""
 
