@@ -13,6 +13,7 @@ from dataclasses import dataclass, field, replace
 from . import cli
 from .images import Content, File, Opened, Part, Section, Unread, Volume
 from .limits import Full
+from .opened import is_uniform
 from .names import DEPEX, PE32, TE, Names
 from .shown import file_name
 
@@ -177,7 +178,7 @@ def _others(content: Content, folder: str, within: str) -> Iterator[Entry]:
     read."""
     gaps = {(it.offset, it.length): it for it in content.unread if it.is_gap}
     for part in content.others:
-        if not _is_uniform(part):
+        if not is_uniform(part.data, part.offset, part.offset + part.length):
             otherwise = Unread(part.data, part.offset, part.length, "", OUTSIDE, is_gap=True)
             yield _gap(gaps.pop((part.offset, part.length), otherwise), folder, within)
     rest = (it for it in content.unread if not it.is_gap or (it.offset, it.length) in gaps)
@@ -204,12 +205,6 @@ def _unread(found: Iterable[Unread], folder: str, within: str) -> Iterator[Entry
 def _not_read(entry: Entry, reason: str) -> Entry:
     """Returns the entry of bytes that are not read, with the reason."""
     return replace(entry, note=reason, line=f"{entry.path}: not read: {reason}", status=cli.OTHER)
-
-
-def _is_uniform(part: Part) -> bool:
-    """Returns whether all bytes of a part are equal."""
-    end = part.offset + part.length
-    return part.data.count(part.data[part.offset : part.offset + 1], part.offset, end) == part.length
 
 
 def _numbered(name: str, counts: Counter[str]) -> str:

@@ -25,6 +25,7 @@ library libfv, LIST or ANSWERS cannot be used, or an answer cannot be written.""
 
 from __future__ import annotations
 
+import argparse
 import contextlib
 import fcntl
 import os
@@ -226,23 +227,17 @@ def names_in(path: str) -> list[bytes]:
     return [it for it in data.split(b"\n") if it]
 
 
-def parser() -> cli.Parser:
-    """Returns the arguments of the command."""
-    forms = "[--] IMAGE ..", "--from LIST"
-    start = f"{NAME} [--no-status] [--jobs N] [--to ANSWERS] "
-    made = cli.Parser(NAME, __doc__, "\n       ".join(f"{start}{it}" for it in forms))
-    made.add_argument("images", metavar="IMAGE", nargs="*", help="an image")
-    made.add_argument("--from", metavar="LIST", dest="list", help="a file with the name of an image in each line")
-    made.add_argument("--to", metavar="ANSWERS", dest="answers", help="the file to which the lines are added")
-    made.add_argument("--no-status", action="store_true", help="end with status 0 whatever the lines are")
-    made.add_argument(
-        "--jobs",
-        metavar="N",
-        type=int,
-        default=os.cpu_count(),
-        help="the threads; by default one for each processor, and at most one for each 128 MiB of memory",
-    )
-    return made
+ABOUT_JOBS = "the threads; by default one for each processor, and at most one for each 128 MiB of memory"
+parser = cli.of(
+    NAME,
+    __doc__,
+    cli.argument("images", metavar="IMAGE", nargs="*", help="an image"),
+    cli.argument("--from", metavar="LIST", dest="list", help="a file with the name of an image in each line"),
+    cli.argument("--to", metavar="ANSWERS", dest="answers", help="the file to which the lines are added"),
+    cli.flag("--no-status", "end with status 0 whatever the lines are"),
+    cli.argument("--jobs", metavar="N", type=int, default=os.cpu_count(), help=ABOUT_JOBS),
+    usages=[f"[--no-status] [--jobs N] [--to ANSWERS] {it}" for it in ("[--] IMAGE ..", "--from LIST")],
+)
 
 
 def _run(names: list[bytes], path: str | None, jobs: int) -> int:
@@ -265,13 +260,11 @@ def _run(names: list[bytes], path: str | None, jobs: int) -> int:
     return status
 
 
-@cli.command(NAME)
-def main(words: list[str]) -> int:
+@cli.command(parser)
+def main(given: argparse.Namespace) -> int:
     """Runs the command."""
-    given = parser().parse_args(words)
     if not given.images and given.list is None:
         parser().error("IMAGE or --from LIST is needed")
-    cli.limit_memory()
     names = [os.fsencode(it) for it in given.images] + (names_in(given.list) if given.list is not None else [])
     status = _run(names, given.answers, threads(given.jobs))
     return cli.DONE if given.no_status else status

@@ -13,6 +13,7 @@ written."""
 
 from __future__ import annotations
 
+import argparse
 import os
 from collections.abc import Iterator
 
@@ -46,21 +47,19 @@ def compare(first: str, second: str) -> int:
     return STATUS[report.verdict]
 
 
-def parser() -> cli.Parser:
-    """Returns the arguments of the command."""
-    usage = f"{NAME} PATH OLD-FILE OLD-HEX OLD-MODE NEW-FILE NEW-HEX NEW-MODE ..\n       {NAME} PATH\n       {NAME} A B"
-    made = cli.Parser(NAME, __doc__, usage)
-    made.add_argument("path", metavar="PATH", help="the name of the file in the repository")
-    made.add_argument("rest", metavar="FILE", nargs="*", help="the versions, their hashes and their modes")
-    return made
+parser = cli.of(
+    NAME,
+    __doc__,
+    cli.argument("path", metavar="PATH", help="the name of the file in the repository"),
+    cli.argument("rest", metavar="FILE", nargs="*", help="the versions, their hashes and their modes"),
+    usages=("PATH OLD-FILE OLD-HEX OLD-MODE NEW-FILE NEW-HEX NEW-MODE ..", "PATH", "A B"),
+)
 
 
-@cli.command(NAME)
-def main(words: list[str]) -> int:
+# A path may begin with a hyphen.
+@cli.command(parser, lambda words: cli.with_name_last(words) if len(words) < 2 else ["--", *words])
+def main(given: argparse.Namespace) -> int:
     """Runs the command."""
-    # A path may begin with a hyphen.
-    given = parser().parse_args(cli.with_name_last(words) if len(words) < 2 else ["--", *words])
-    cli.limit_memory()
     match given.rest:
         case []:
             print(f"fvtool: {printable(given.path)} is not merged")

@@ -33,6 +33,7 @@ library libfv cannot be used, or the output cannot be written."""
 
 from __future__ import annotations
 
+import argparse
 import contextlib
 import hashlib
 import json
@@ -497,7 +498,7 @@ def compare_files(names: Sequence[str], is_open: bool, say: Callable[[str], None
         say(f"{printable(names[number])} has no volume, so its bytes are compared")
 
     try:
-        first, second = (cli.read(name, say, Limits().total) for name in names)
+        first, second = (cli.read(name, say) for name in names)
         return compare_images(first, second, is_open, note=note)
     except cli.Unread as line:
         return Report(REJECTED, str(line))
@@ -507,21 +508,19 @@ def compare_files(names: Sequence[str], is_open: bool, say: Callable[[str], None
         return Report(REJECTED, "fault 24 at 0")
 
 
-def parser() -> cli.Parser:
-    """Returns the arguments of the command."""
-    made = cli.Parser(NAME, __doc__)
-    made.add_argument("first", metavar="A", help="a flash image or a firmware volume")
-    made.add_argument("second", metavar="B", help="another flash image or firmware volume")
-    made.add_argument("--open", action="store_true", help="open compressed sections where two files differ")
-    made.add_argument("--json", action="store_true", help="write a JSON object")
-    return made
+parser = cli.of(
+    NAME,
+    __doc__,
+    cli.argument("first", metavar="A", help="a flash image or a firmware volume"),
+    cli.argument("second", metavar="B", help="another flash image or firmware volume"),
+    cli.flag("--open", "open compressed sections where two files differ"),
+    cli.flag("--json", "write a JSON object"),
+)
 
 
-@cli.command(NAME)
-def main(words: list[str]) -> int:
+@cli.command(parser)
+def main(given: argparse.Namespace) -> int:
     """Runs the command."""
-    given = parser().parse_args(words)
-    cli.limit_memory()
     report = compare_files((given.first, given.second), given.open, lambda what: cli.complain(NAME, what))
     print(json.dumps(asdict(report), indent=2) if given.json else "\n".join(report_lines(report)))
     return STATUS[report.verdict]

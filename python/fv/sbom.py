@@ -21,6 +21,7 @@ ran out."""
 
 from __future__ import annotations
 
+import argparse
 import hashlib
 import json
 import os
@@ -98,18 +99,12 @@ def _properties(found: Iterable[tuple[str, str]]) -> list[dict[str, str]]:
     return [{"name": f"uefi:{name}", "value": value} for name, value in found]
 
 
-def parser() -> cli.Parser:
-    """Returns the arguments of the command."""
-    made = cli.Parser(NAME, __doc__)
-    made.add_argument("image", metavar="IMAGE", help="a flash image or a firmware volume")
-    return made
+parser = cli.of(NAME, __doc__, cli.IMAGE)
 
 
-@cli.command(NAME)
-def main(words: list[str]) -> int:
+@cli.command(parser)
+def main(given: argparse.Namespace) -> int:
     """Runs the command."""
-    given = parser().parse_args(words)
-    cli.limit_memory()
     data = cli.read_for(NAME, given.image)
     parts = list(entries(images.read(data), Names()))
     made = bill(os.path.basename(given.image), data, parts)

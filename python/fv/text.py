@@ -15,6 +15,7 @@ need Python's module brotli. git stops at any status except 0, so nothing wrong 
 
 from __future__ import annotations
 
+import argparse
 import hashlib
 import struct
 import uuid
@@ -167,19 +168,12 @@ def shown(data: bytes, is_open: bool) -> Iterator[str]:
         yield f"no volume, {len(data)} bytes, {_sum(data)}"
 
 
-def parser() -> cli.Parser:
-    """Returns the arguments of the command."""
-    made = cli.Parser(NAME, __doc__)
-    made.add_argument("image", metavar="IMAGE", help="a flash image or a firmware volume")
-    made.add_argument("--open", action="store_true", help="list the contents of compressed sections too")
-    return made
+parser = cli.of(NAME, __doc__, cli.IMAGE, cli.flag("--open", "list the contents of compressed sections too"))
 
 
-@cli.command(NAME)
-def main(words: list[str]) -> int:
+@cli.command(parser, cli.with_name_last)
+def main(given: argparse.Namespace) -> int:
     """Runs the command."""
-    given = parser().parse_args(cli.with_name_last(words))
-    cli.limit_memory()
     for line in shown(cli.read_for(NAME, given.image), given.open):
         print(line)
     return cli.DONE

@@ -152,19 +152,19 @@ def _file_of(entry: Entry) -> str:
     return f"{volume}/{file}/" if entry.what == "section" and inner else ""
 
 
-def parser() -> cli.Parser:
-    """Returns the arguments of the command."""
-    made = cli.Parser(NAME, __doc__, f"\n       {NAME} ".join(["", *USAGES]).strip())
-    made.add_argument("image", metavar="IMAGE", help="a flash image or a firmware volume")
-    made.add_argument("folder", metavar="FOLDER", nargs="?", help="a folder that is empty or does not exist, or FILE")
-    made.add_argument("--list", action="store_true", help="list the parts, and write no files")
-    made.add_argument("--sums", action="store_true", help="list their SHA-256 digests too")
-    made.add_argument("--json", action="store_true", help="list each part as a JSON object")
-    made.add_argument("--only", metavar="PART", help="write the bytes of one part to FILE, or to standard output")
-    made.add_argument(
-        "--most", metavar="N", type=cli.whole_number, default=Limits().total, help="the most bytes that are written"
-    )
-    return made
+ABOUT_MOST = "the most bytes that are written"
+parser = cli.of(
+    NAME,
+    __doc__,
+    cli.IMAGE,
+    cli.argument("folder", metavar="FOLDER", nargs="?", help="a folder that is empty or does not exist, or FILE"),
+    cli.flag("--list", "list the parts, and write no files"),
+    cli.flag("--sums", "list their SHA-256 digests too"),
+    cli.flag("--json", "list each part as a JSON object"),
+    cli.argument("--only", metavar="PART", help="write the bytes of one part to FILE, or to standard output"),
+    cli.argument("--most", metavar="N", type=cli.whole_number, default=Limits.total, help=ABOUT_MOST),
+    usages=USAGES,
+)
 
 
 def hindrance(given: argparse.Namespace) -> str:
@@ -185,7 +185,7 @@ def hindrance(given: argparse.Namespace) -> str:
 
 def run(given: argparse.Namespace) -> int:
     """Reads the image, writes what is asked for, and returns the status."""
-    data = cli.read(given.image, lambda what: cli.complain(NAME, what), given.most)
+    data = cli.read_for(NAME, given.image, given.most)
     image = images.read(data, Limits(total=given.most))
     found = list(entries(image, Names()))
     if given.only:
@@ -244,14 +244,12 @@ def write_new(name: str, data: memoryview) -> None:
             raise
 
 
-@cli.command(NAME)
-def main(words: list[str]) -> int:
+@cli.command(parser)
+def main(given: argparse.Namespace) -> int:
     """Runs the command."""
-    given = parser().parse_args(words)
     is_clear = given.list != bool(given.folder) if given.only is None else given.only != "" and not given.list
     if given.folder == "" or not is_clear or (not given.list and (given.sums or given.json)):
         parser().error("IMAGE and FOLDER are needed, or --list and IMAGE, or --only, PART and IMAGE")
-    cli.limit_memory()
     cli.end_by_signals()
     if reason := hindrance(given):
         cli.complain(NAME, reason)
