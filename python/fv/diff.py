@@ -20,7 +20,7 @@ from collections.abc import Iterator
 from . import cli
 from .same import NAME as SAME
 from .same import STATUS, compare_files, report_lines
-from .shown import printable
+from .shown import indented, printable
 
 NAME = "fv-diff"
 
@@ -36,15 +36,7 @@ def lines(path: str, old: str, new: str) -> Iterator[str]:
         yield f"fvtool: {shown}"
         remarks: list[str] = []
         report = compare_files((old, new), False, remarks.append)
-        yield from (f"  {SAME}: {printable(it)}" for it in remarks)
-        yield from (f"  {line}" for line in report_lines(report))
-
-
-def compare(first: str, second: str) -> int:
-    """Compares two files that a user has named, as fv-same does, and returns the status of fv-same."""
-    report = compare_files((first, second), False, lambda what: cli.complain(NAME, what))
-    print(*report_lines(report), sep="\n")
-    return STATUS[report.verdict]
+        yield from indented([*(f"{SAME}: {printable(it)}" for it in remarks), *report_lines(report)])
 
 
 parser = cli.of(
@@ -63,8 +55,10 @@ def main(given: argparse.Namespace) -> int:
     match given.rest:
         case []:
             print(f"fvtool: {printable(given.path)} is not merged")
-        case [second]:
-            return compare(given.path, second)
+        case [second]:  # a user has named two files
+            report = compare_files((given.path, second), False, lambda what: cli.complain(NAME, what))
+            print(*report_lines(report), sep="\n")
+            return STATUS[report.verdict]
         case [old, _, _, new, _, _, *_]:
             print(*lines(given.path, old, new), sep="\n")
         case _:

@@ -37,7 +37,7 @@ import argparse
 import contextlib
 import hashlib
 import json
-from collections import Counter, deque
+from collections import Counter, defaultdict, deque
 from collections.abc import Callable, Iterable, Iterator, Sequence
 from dataclasses import asdict, dataclass, field
 from itertools import zip_longest
@@ -46,7 +46,8 @@ from typing import Any
 from . import cli
 from ._calls import volume_compare, volume_digest
 from ._errors import FaultError
-from .images import REMAINS, Content, File, Opened, Reader, Section, Unread, Volume, leaves, volumes_in
+from .images import REMAINS, Content, File, Opened, Reader, Section, Unread, Volume
+from .images import between, leaves, places_of, volumes_in
 from .limits import Full, Limits
 from .names import Names
 from .shown import indented, printable, quoted
@@ -304,14 +305,11 @@ def first_difference(one: bytes, two: bytes) -> int:
 def _moves(first: list[Volume], second: list[Volume]) -> list[Move]:
     """Returns the volumes of one image that mean the same as a volume at another place of the other image. Each volume
     is in one move."""
-    left: dict[Any, deque[Volume]] = {}
+    left: defaultdict[Any, deque[Volume]] = defaultdict(deque)
     for volume in second:
-        left.setdefault(_meaning(volume), deque()).append(volume)
-    moves = []
-    for volume in first:
-        if places := left.get(_meaning(volume)):
-            moves.append(Move(volume.offset, places.popleft().offset, volume.length))
-    return moves
+        left[_meaning(volume)].append(volume)
+    found = ((it, left[_meaning(it)]) for it in first)
+    return [Move(it.offset, places.popleft().offset, it.length) for it, places in found if places]
 
 
 def _meaning(volume: Volume) -> Any:
@@ -416,9 +414,7 @@ def _other_sections(old: list[Section], new: list[Section]) -> list[str]:
 def _other_bytes(first: Content, second: Content) -> int | None:
     """Returns the offset of the first byte outside of volumes that differs. The two images have volumes at the same
     places."""
-    starts = [0, *(it.offset + it.length for it in first.volumes)]
-    ends = [*(it.offset for it in first.volumes), max(len(first.data), len(second.data))]
-    for start, end in zip(starts, ends):
+    for start, end in between(0, places_of(first.volumes), max(len(first.data), len(second.data))):
         one, two = first.data[start:end], second.data[start:end]
         if one != two:
             return start + first_difference(one, two)

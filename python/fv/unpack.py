@@ -91,26 +91,21 @@ def write(found: Iterable[Entry], tree: Tree) -> None:
             if entry.is_folder:
                 tree.make(entry.path)
             else:
-                part = entry.part
-                tree.write(entry.path, memoryview(part.data)[part.offset : part.offset + part.length])
+                tree.write(entry.path, entry.part.view)
             tree.put(index, f"{index_row(entry)}\n".encode())
 
 
 def table(found: Iterable[Entry], with_digests: bool) -> Iterator[str]:
     """Yields lines for parts, with a heading."""
-    rows = [("offset", "size", "type", "path"), *map(_cells, found)]
-    digests = ["sha256", *(it.digest for it in found)] if with_digests else []
+    rows = [("offset", "size", "type", f"{'sha256':<64}  " if with_digests else "", "path")]
+    for it in found:
+        offset = f"{'' if it.within == IMAGE else '+'}0x{it.part.offset:x}"
+        path = f"{it.path}  {it.note}" if it.note else it.path
+        digest = f"{it.digest}  " if with_digests else ""
+        rows.append((offset, str(it.part.length), it.kind or it.what, digest, path))
     places, sizes, kinds = (max(len(row[it]) for row in rows) for it in range(3))
-    for number, (offset, size, kind, path) in enumerate(rows):
-        digest = f"{digests[number]:<64}  " if with_digests else ""
+    for offset, size, kind, digest, path in rows:
         yield f"{offset:>{places}}  {size:>{sizes}}  {kind:<{kinds}}  {digest}{path}"
-
-
-def _cells(entry: Entry) -> tuple[str, str, str, str]:
-    """Returns the columns of a part in the table."""
-    offset = f"{'' if entry.within == IMAGE else '+'}0x{entry.part.offset:x}"
-    path = f"{entry.path}  {entry.note}" if entry.note else entry.path
-    return offset, str(entry.part.length), entry.kind or entry.what, path
 
 
 def objects(found: Iterable[Entry], with_digests: bool) -> Iterator[str]:
@@ -196,20 +191,15 @@ def run(given: argparse.Namespace) -> int:
         print(*lines, sep="\n", end="\n" if found else "")
         return cli.OTHER
     if given.folder:
-        check_files(found, len(data))
+        most = LEAST_FILES + len(data) // BYTES_OF_FILE
+        if sum(not it.is_folder for it in found) > most:
+            raise Full(f"{most} files")
         with filled_at_end(Path(os.path.realpath(given.folder)), given.most, INDEX) as tree:
             write(found, tree)
         print(*(it.line for it in found if it.line), sep="\n")
     else:
         print(*(objects if given.json else table)(found, given.sums), sep="\n")
     return max(it.status for it in found)
-
-
-def check_files(found: Iterable[Entry], size: int) -> None:
-    """Checks that an image of this many bytes has no more files than may be written. Raises Full if it has."""
-    most = LEAST_FILES + size // BYTES_OF_FILE
-    if sum(not it.is_folder for it in found) > most:
-        raise Full(f"{most} files")
 
 
 def write_only(found: Sequence[Entry], given: argparse.Namespace) -> int:
@@ -224,12 +214,10 @@ def write_only(found: Sequence[Entry], given: argparse.Namespace) -> int:
         if len(parts) > MOST_PATHS:
             cli.complain(NAME, f"and {len(parts) - MOST_PATHS} more")
         return cli.OTHER
-    part = parts[0].part
-    body = memoryview(part.data)[part.offset : part.offset + part.length]
     if given.folder:
-        write_new(given.folder, body)
+        write_new(given.folder, parts[0].part.view)
     else:
-        sys.stdout.buffer.write(body)
+        sys.stdout.buffer.write(parts[0].part.view)
     return cli.DONE
 
 
