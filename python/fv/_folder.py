@@ -32,48 +32,24 @@ class Tree:
         self._most = self._left = most
         self._opened: list[tuple[str, int]] = []  # the names and the descriptors of these folders
 
-    def make(self, path: str) -> None:
-        """Makes a folder, and the folders above it that are not there."""
-        self._enter(path)
-
     def leave(self, depth: int = 0) -> None:
         """Closes the folders that are open, except the first ones down to a depth."""
         while len(self._opened) > depth:
             os.close(self._opened.pop()[1])
 
-    def write(self, path: str, data: memoryview) -> None:
-        """Writes a new file, and makes the folders above it that are not there."""
-        self._take(len(data))
-        file = self._new(path)
-        try:
-            while data:
-                data = data[os.write(file, data) :]
-        finally:
-            os.close(file)
-
-    @contextlib.contextmanager
-    def file(self, path: str) -> Iterator[IO[bytes]]:
-        """Gives the block a new file, for `put`."""
-        with os.fdopen(self._new(path), "wb") as file:
-            yield file
+    def file(self, path: str) -> IO[bytes]:
+        """Returns a new file, for `put`. Makes the folders above it that are not there."""
+        folder, _, name = path.rpartition("/")
+        return os.fdopen(os.open(name, NEW, 0o666, dir_fd=self.enter(folder)), "wb")
 
     def put(self, file: IO[bytes], data: bytes | memoryview) -> None:
         """Writes bytes to a file of the folder."""
-        self._take(len(data))
-        file.write(data)
-
-    def _take(self, count: int) -> None:
-        """Takes this many bytes of those that may be written."""
-        self._left -= count
+        self._left -= len(data)
         if self._left < 0:
             raise Full(f"{self._most} bytes")
+        file.write(data)
 
-    def _new(self, path: str) -> int:
-        """Returns a descriptor for a new file."""
-        folder, _, name = path.rpartition("/")
-        return os.open(name, NEW, 0o666, dir_fd=self._enter(folder))
-
-    def _enter(self, path: str) -> int:
+    def enter(self, path: str) -> int:
         """Returns a descriptor for a folder. Makes the folders on the way that are not there."""
         names = [it for it in path.split("/") if it]
         same = itertools.takewhile(lambda both: both[0][0] == both[1], zip(self._opened, names))

@@ -302,7 +302,7 @@ def read(data: Buffer, limits: Limits = Limits()) -> Content:
     copied."""
     reader = Reader(data if isinstance(data, bytes) else bytes(data), limits)
     image = reader.image()
-    reader.open_volumes(image.volumes, 0)
+    reader.open_contents([], image.volumes, 0)
     return image
 
 
@@ -333,16 +333,25 @@ class Reader:
         """Returns the volumes of the image, with all parts inside them. No section is opened."""
         return self._with_unread(Content(self._data, [], self._volumes(self._data, 0), 0, []))
 
-    def open_volumes(self, volumes: Iterable[Volume], depth: int) -> None:
-        """Opens all sections in volumes, at every level. `depth` is the number of opened sections around them."""
+    def open_contents(self, sections: Iterable[Section], volumes: Iterable[Volume], depth: int) -> None:
+        """Opens sections, then the sections in the volumes that they hold, and then those in further volumes, at every
+        level. `depth` is the number of opened sections around them."""
+        found = list(leaves(sections))
+        self.open_all(found, depth)
+        for section in found:
+            if section.volume:
+                self.open_contents([], [section.volume], depth)
+            elif section.opened:
+                self.open_contents(section.opened.sections, section.opened.volumes, depth + 1)
         for volume in volumes:
             cores = [it for it in volume.files if it.kind == names.SECURITY_CORE and not it.sections]
-            for file in cores:
-                file.sections = self._core_sections(file)
+            for file in cores:  # for libfv their data are bytes, since they need not be sections
+                inner, after = self._stream(file.data, file.offset, file.end, 0)
+                file.sections = inner if after == file.end else []
             if any(True for file in cores for _ in _places_read_apart(file.sections)):
                 self._add_unread(volume)  # these places of the cores are read now
             for file in volume.files:
-                self._open_under(file.sections, depth)
+                self.open_contents(file.sections, [], depth)
 
     def open_all(self, sections: Iterable[Section], depth: int) -> None:
         """Opens sections, and the sections inside them. Sections in volumes are not opened."""
@@ -365,22 +374,6 @@ class Reader:
             section.closed = OUT_OF_MEMORY
         else:
             self.open_all(section.opened.sections, depth + 1)
-
-    def _core_sections(self, file: File) -> list[Section]:
-        """Returns the sections of a security core. For libfv its data are bytes, since they need not be sections."""
-        sections, after = self._stream(file.data, file.offset, file.end, 0)
-        return sections if after == file.end else []
-
-    def _open_under(self, sections: Iterable[Section], depth: int) -> None:
-        """Opens sections, and then the sections in the volumes that they hold."""
-        found = list(leaves(sections))
-        self.open_all(found, depth)
-        for section in found:
-            if section.volume:
-                self.open_volumes([section.volume], depth)
-            elif section.opened:
-                self._open_under(section.opened.sections, depth + 1)
-                self.open_volumes(section.opened.volumes, depth + 1)
 
     def _opened(self, section: Section, depth: int) -> Opened:
         """Returns the contents of a section. Raises Closed or Full if it is not opened."""

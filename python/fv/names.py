@@ -8,7 +8,7 @@ import functools
 import re
 import struct
 import uuid
-from collections.abc import Iterable, Iterator
+from collections.abc import Iterable
 from pathlib import Path
 
 from ._native import FileType, SectionType
@@ -68,23 +68,18 @@ def type_name(kind: int, types: dict[int, str]) -> str:
     return types.get(kind, f"type {kind:02x}")
 
 
-def _entries(lines: Iterable[str]) -> Iterator[tuple[str, str]]:
-    """Yields the GUIDs and the names of lines. A line that begins with # is a comment."""
-    for line in lines:
-        guid, _, name = line.strip().partition(" ")
-        if name and not line.startswith("#"):
-            yield guid.lower(), name.strip()
-
-
 class Names:
     """The names of GUIDs in some files. Each file has lines of a GUID and a name. If two lines name one GUID, the later
-    line counts."""
+    line counts. A line that begins with # is a comment."""
 
     def __init__(self, files: Iterable[Path] = (EDK2,)) -> None:
         self._names: dict[str, str] = {}
         for file in files:
             with open(file, encoding="utf-8", errors="replace") as lines:
-                self._names.update(_entries(lines))
+                for line in lines:
+                    guid, _, name = line.strip().partition(" ")
+                    if name and not line.startswith("#"):
+                        self._names[guid.lower()] = name.strip()
         # An image may have one expression, or one GUID, in very many sections.
         self._depex = functools.lru_cache(1 << 10)(self._ops)
         self._guid = functools.lru_cache(1 << 14)(self._text)

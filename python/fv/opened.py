@@ -69,11 +69,6 @@ class Way:
     unpack: Callable[[Packed, Budget], Iterator[bytes]]
 
 
-def from_stored(packed: Packed, _: Budget) -> Iterator[bytes]:
-    """Yields data that are not packed."""
-    yield packed.data
-
-
 def from_crc32(packed: Packed, _: Budget) -> Iterator[bytes]:
     """Yields the data of a CRC32 section, and compares their sum with the sum in the section."""
     stored = packed.header[CRC32_AT : CRC32_AT + 4]
@@ -158,7 +153,7 @@ def from_compression(packed: Packed, budget: Budget, widths: tuple[int, ...]) ->
         except _tiano.Damaged as error:
             reasons.append(str(error))
         else:
-            if is_stream(found[-1]):
+            if are_sections(found[-1], 0, len(found[-1]), len(found[-1])):
                 yield found[-1]
                 return
     if not found:
@@ -169,7 +164,10 @@ def from_compression(packed: Packed, budget: Budget, widths: tuple[int, ...]) ->
 _either = functools.partial(from_compression, widths=(_tiano.UEFI, _tiano.TIANO))
 _tiano_only = functools.partial(from_compression, widths=(_tiano.TIANO,))
 # The ways by the type of a compression section.
-COMPRESSIONS = {0: Way("stored", "stored", from_stored), 1: Way("UEFI compression", "uefi", _either)}
+COMPRESSIONS = {
+    0: Way("stored", "stored", lambda packed, _: iter([packed.data])),
+    1: Way("UEFI compression", "uefi", _either),
+}
 # The ways by the GUID of a GUID-defined section.
 GUIDS = {
     uuid.UUID("ee4e5898-3914-4259-9d6e-dc7bd79403cf"): Way("LZMA", "lzma", from_lzma),
@@ -250,11 +248,6 @@ def is_uniform(data: bytes, start: int, end: int) -> bool:
     """Returns whether all bytes at these places are equal."""
     piece = data[start : start + 1] * min(end - start, 1 << 16)  # bytes.count would take ten times as long
     return all(data.startswith(piece[: end - at], at, end) for at in range(start, end, 1 << 16))
-
-
-def is_stream(data: bytes) -> bool:
-    """Returns whether some data are sections up to their end."""
-    return are_sections(data, 0, len(data), len(data))
 
 
 def are_sections(data: bytes, start: int, end: int, most: int) -> bool:

@@ -489,13 +489,10 @@ def _inside_lines(inside: Inside) -> Sequence[str]:
 
 def compare_files(names: Sequence[str], is_open: bool, say: Callable[[str], None]) -> Report:
     """Compares two files, and returns the report. `say` takes a remark about a file."""
-    def note(number: int) -> None:
-        """Says that an input has no volume."""
-        say(f"{printable(names[number])} has no volume, so its bytes are compared")
-
     try:
         first, second = (cli.read(name, say) for name in names)
-        return compare_images(first, second, is_open, note=note)
+        note = "{} has no volume, so its bytes are compared".format
+        return compare_images(first, second, is_open, note=lambda number: say(note(printable(names[number]))))
     except cli.Unread as line:
         return Report(REJECTED, str(line))
     except Full as what:

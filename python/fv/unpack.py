@@ -89,9 +89,10 @@ def write(found: Iterable[Entry], tree: Tree) -> None:
         tree.put(index, ("\t".join(COLUMNS) + "\n").encode())
         for entry in found:
             if entry.is_folder:
-                tree.make(entry.path)
+                tree.enter(entry.path)
             else:
-                tree.write(entry.path, entry.part.view)
+                with tree.file(entry.path) as file:
+                    tree.put(file, entry.part.view)
             tree.put(index, f"{index_row(entry)}\n".encode())
 
 
