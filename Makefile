@@ -18,6 +18,8 @@
 MAKEFLAGS += --no-builtin-rules
 # With it, `cd` in a recipe could go to another folder.
 unexport CDPATH
+# The scripts in Python leave no compiled modules in this folder.
+export PYTHONDONTWRITEBYTECODE := 1
 VERSION := $(shell cat VERSION)
 OUT ?= out
 DIST ?= dist

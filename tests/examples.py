@@ -2,8 +2,8 @@
 # SPDX-License-Identifier: BSD-2-Clause-Patent
 """Runs the examples of README.md, docs/PROGRAM.md, docs/FAULTS.md and the READMEs of recipes/, and compares their
 outputs and exit statuses with what the documents show. If documents are given, it runs only the examples of these
-documents: a file, or a name, as README, PROGRAM, or `map` for the README of recipes/map. With --root, it runs them in the root of another system, as a user of the commands that are installed
-there (tests/install/test_release.py).
+documents: a file, or a name, as README, PROGRAM, or `map` for the README of recipes/map. With --root, it runs them in
+the root of another system, as a user of the commands that are installed there (tests/install/test_release.py).
 
 An example is an indented block with lines that begin with '$ '. All examples of a document run in one shell, in an
 empty folder that has ./fvtool, libfv/, crates/ and recipes/, and with the commands of python/bin in the PATH. A
@@ -88,8 +88,8 @@ def examples(lines: list[str]) -> list[Example]:
 
 @dataclass(frozen=True)
 class Place:
-    """Where examples are run: here, over the files of this repository, or in the root of another system, by the commands
-    in a folder of that system."""
+    """Where examples are run: here, over the files of this repository, or in the root of another system, by the
+    commands in a folder of that system."""
 
     root: str = ""
     bin: str = "/usr/bin"
@@ -153,8 +153,8 @@ def main() -> int:
     """Runs the examples, and compares their outputs. Returns the exit status."""
     reader = argparse.ArgumentParser(description="Runs the examples of documents, and compares what they print.")
     reader.add_argument("documents", nargs="*", metavar="DOCUMENT", help="none: all documents with examples")
-    reader.add_argument("--root", default="", help="the root of another system, where installed commands run the examples")
-    reader.add_argument("--bin", default="/usr/bin", help="the folder of these commands in that system; /usr/bin if not given")
+    reader.add_argument("--root", default="", help="the root of another system, where the examples are run")
+    reader.add_argument("--bin", default="/usr/bin", help="the folder of the commands in that system (%(default)s)")
     given = reader.parse_args()
     place = Place(os.path.abspath(given.root) if given.root else "", given.bin)
     wrong: list[str] = []

@@ -1,12 +1,13 @@
 # SPDX-License-Identifier: BSD-2-Clause-Patent
-"""The frame of the tests by `unittest`: where the built files are, what a test needs, and how a test runs a command in a
-scratch folder. As a program, it runs the tests of a package, or of one module (`tests.program.test_rows`), and prints what
-failed and what was skipped, and why:
+"""The frame of the tests by `unittest`: where the built files are, what a test needs, and how a test runs a command in
+a scratch folder. As a program, it runs the tests of a package, or of one module (`tests.program.test_rows`), and prints
+what failed and what was skipped, and why:
 
     python3 -m tests.frame PACKAGE [NAME..]
 
-NAME is a module of the package without `test_`, a class or a test, as in `same`, `same.Verdicts` or
-`same.Verdicts.test_json`; `*` matches any text. The exit status is 0, or 1 if a test failed, or 77 if nothing was tried."""
+NAME is a module of the package without `test_`, a class or a test, as in `same`, `same.Same` or
+`same.Same.test_json`; `*` matches any text. The exit status is 0, or 1 if a test failed, or 77 if nothing was
+tried."""
 
 from __future__ import annotations
 
@@ -106,15 +107,22 @@ def tests_in(suite: unittest.TestSuite) -> Iterator[unittest.TestCase]:
             yield it
 
 
+def short(test: unittest.TestCase, package: str) -> str:
+    """Returns the name of a test of a package, without the names of the package and `test_`."""
+    return test.id().removeprefix(f"{package}.").removeprefix("test_")
+
+
 def chosen(package: str, names: list[str]) -> unittest.TestSuite:
     """Returns the tests of a package, or of one module, whose names begin with one of the names, or all of them."""
     folder, loader = ROOT / package.replace(".", "/"), unittest.TestLoader()
-    suite = loader.discover(str(folder), top_level_dir=str(ROOT)) if folder.is_dir() else loader.loadTestsFromName(package)
-    found = list(tests_in(suite))
-    short = {it: it.id().removeprefix(f"{package}.").removeprefix("test_") for it in found}
-    wanted = [it for it in found if not names or any(fnmatch.fnmatch(short[it] + ".", f"{name}.*") for name in names)]
-    lost = [it for it in found if type(it).__name__ == "_FailedTest" and it not in wanted]  # a module that is not read
-    return unittest.TestSuite([*wanted, *lost])
+    is_package = folder.is_dir()
+    suite = loader.discover(str(folder), top_level_dir=str(ROOT)) if is_package else loader.loadTestsFromName(package)
+
+    def is_chosen(test: unittest.TestCase) -> bool:
+        is_lost = type(test).__name__ == "_FailedTest"  # a module that cannot be read
+        return is_lost or not names or any(fnmatch.fnmatch(f"{short(test, package)}.", f"{name}.*") for name in names)
+
+    return unittest.TestSuite([it for it in tests_in(suite) if is_chosen(it)])
 
 
 def say_skipped(name: str, result: unittest.TestResult) -> None:
@@ -122,7 +130,7 @@ def say_skipped(name: str, result: unittest.TestResult) -> None:
     groups: dict[tuple[str, str], list[str]] = {}
     for test, why in result.skipped:
         # A class that is skipped as a whole is one thing, and so are the tests of a class with one reason.
-        holder, _, method = test.id().removeprefix(f"{name}.").removeprefix("test_").rpartition(".")
+        holder, _, method = short(test, name).rpartition(".")
         groups.setdefault((holder, why), []).append(method)
     for (holder, why), methods in groups.items():
         skip(name.removeprefix("tests."), f"{holder} ({len(methods)} tests: {', '.join(methods)})", why)
@@ -135,7 +143,8 @@ def main() -> int:
     if not suite.countTestCases():
         sys.exit(f"no test of {package} has the name {' '.join(names)}")
     unittest.installHandler()  # after Ctrl-C, the classes still remove their folders
-    result = unittest.TextTestRunner(sys.stdout, verbosity=2 if names else 1, resultclass=Result, buffer=True).run(suite)
+    runner = unittest.TextTestRunner(sys.stdout, verbosity=2 if names else 1, resultclass=Result, buffer=True)
+    result = runner.run(suite)
     say_skipped(package, result)
     wrong = len(result.failures) + len(result.errors)
     print(f"{package.removeprefix('tests.')}: {result.testsRun} tests, {wrong} failed, {len(result.skipped)} skipped")

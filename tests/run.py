@@ -1,23 +1,24 @@
 #!/usr/bin/env python3
 # SPDX-License-Identifier: BSD-2-Clause-Patent
-"""Runs the checks of this repository, and says of each whether it passed, failed or was skipped. --list prints what each
-check shows. Without names, all of them run, which is the gate: .ci/run.
+"""Runs the checks of this repository, and says of each whether it passed, failed or was skipped. --list prints what
+each check shows. Without names, all of them run, which is the gate: .ci/run.
 
 A NAME is a check (`rows`), a pattern (`t*`), or one case of a check, after a dot: a test in Python
-(`commands.same.Verdicts`), a row (`rows.block-map-of-256`), the wrong bodies of a crate or one of them (`mutants.fv_head`,
-`mutants.fv_head.EDIT`), a document with examples (`examples.README`). The check gets the text after the dot as its
-argument. It gets the arguments after `--` as they are: `tests/run.py tables -- --write`. A check that is run by name does
-not run the checks that it needs.
+(`commands.same.Same`), a row (`rows.list.12`), the wrong bodies of a crate or one of them
+(`mutants.fv_head`, `mutants.fv_head.EDIT`), a document with examples (`examples.README`). The check gets the text after
+the dot as its argument. It gets the arguments after `--` as they are: `tests/run.py tables -- --write`. A check that is
+run by name does not run the checks that it needs.
 
-A check has passed if it ends with status 0. With status 77 it has tried nothing, so it has neither passed nor failed. With
-any other status it has failed, and a check that needs it is not run and has failed too. Each line `NAME: skipped: WHAT,
-WHY` in the output of a check counts as one skipped thing, whether or not the check has passed. Status 77 without such a
-line counts as one skipped thing too. The counts of `rt ci` are added to the counts of the checks. The last line is `N
-passed, N failed`, and `, N skipped` follows if something was skipped."""
+A check has passed if it ends with status 0. With status 77 it has tried nothing, so it has neither passed nor failed.
+With any other status it has failed, and a check that needs it is not run and has failed too. Each line `NAME: skipped:
+WHAT, WHY` in the output of a check counts as one skipped thing, whether or not the check has passed. Status 77 without
+such a line counts as one skipped thing too. The counts of `rt ci` are added to the counts of the checks. The last line
+is `N passed, N failed`, and `, N skipped` follows if something was skipped."""
 
 from __future__ import annotations
 
 import argparse
+import contextlib
 import ctypes
 import fnmatch
 import os
@@ -30,7 +31,7 @@ import sys
 import tempfile
 import threading
 import time
-from collections.abc import Callable, Iterator
+from collections.abc import Callable
 from dataclasses import dataclass, field
 from pathlib import Path
 
@@ -53,9 +54,10 @@ QUICK, ALONE = 1, 2
 
 @dataclass(frozen=True)
 class Check:
-    """A check: its name, the package or module of unittest (`tests.NAME`) or the command that it runs, or a function that
-    returns errors, and what it shows. `after` names the checks that come first, if they are run too, and `needs` the things without
-    which the check can try nothing (MADE). `joint` replaces the dots in the argument of the check."""
+    """A check: its name, the package or module of unittest (`tests.NAME`) or the command that it runs, or a function
+    that returns errors, and what it shows. `after` names the checks that come first, if they are run too, and `needs`
+    the things without which the check can try nothing (MADE). `joint` replaces the dots in the argument of the
+    check."""
 
     name: str
     runs: str | Callable[[Run], list[str]]
@@ -105,7 +107,7 @@ CHECKS = (
     Check("libfv", "tests.libfv", QUICK,
           "the library in C and C++, and the checks of the fuzzer over made inputs", after=("program", "library")),
     Check("rows", "tests.program.test_rows", QUICK,
-          "the program over each row of crates/fv_run_tests/rows: command, inputs, status and output", needs=("program",)),
+          "the program over each row of crates/fv_run_tests/rows: status and output", needs=("program",)),
     Check("memory", "tests.program.test_memory", 0,
           "the program and some tests with each allocation refused in turn, and the memory that a small file takes",
           after=("prove",), needs=("program",)),
@@ -134,11 +136,13 @@ CHECKS = (
           "documents, comments and help use plain words, whole sentences and readable widths"),
     Check("header", "bash -c 'tools/version --check && tools/licence --check && libfv/generate --check'", QUICK,
           "the files that are made from fv.h, and those that show the version or the licence, agree"),
-    Check("types", "python3 -m tests.sources.scripts types", QUICK, "the types in all scripts in Python are right (mypy --strict)"),
-    Check("shell", "python3 -m tests.sources.scripts shell", QUICK, "shell scripts are well-formed (shellcheck), and safe with CDPATH"),
+    Check("types", "python3 -m tests.sources.scripts types", QUICK,
+          "the types in all scripts in Python are right (mypy --strict)"),
+    Check("shell", "python3 -m tests.sources.scripts shell", QUICK,
+          "shell scripts are well-formed (shellcheck), and safe with CDPATH"),
     Check("runner", "tests.sources.test_runner", QUICK, "this script counts rightly, and leaves no process"),
     Check("fuzz", "tests/fuzz/check", 0,
-          "a minute of the fuzzer of the library has no finding, and the fuzzer finds planted faults", needs=("library",)),
+          "a minute of the fuzzer of the library has no finding, and it finds planted faults", needs=("library",)),
     Check("fresh", "python3 -m tests.install.fresh", 0,
           "`make check` passes in a new root of Debian 12 that has only what README asks for", needs=("program",)),
     Check("install", "tests.install", 0,
@@ -151,25 +155,27 @@ CHECKS = (
 
 @dataclass
 class Result:
-    """The result of a check: `passed`, `failed` or `skipped`, and why, and the counts that are added."""
+    """The result of a check: the counts that are added, the skipped things, and why the check failed."""
 
-    state: str
-    why: str = ""
     passed: int = 0
     failed: int = 0
     skips: list[str] = field(default_factory=list)
+    why: str = ""
+
+    @property
+    def state(self) -> str:
+        """Says in a word how the check ended."""
+        return "failed" if self.failed else "passed" if self.passed else "skipped"
 
 
 def counted(name: str, status: int, output: str) -> Result:
     """Returns the result of a check that has ended with this status and this output."""
-    skips = SKIPPED.findall(output)
+    skips = [f"{name}: {it}" for it in SKIPPED.findall(output)]
     if status == NOTHING_TRIED:
-        return Result("skipped", skips=[f"{name}: {it}" for it in skips or ["all of it, and it gives no reason"]])
+        return Result(skips=skips or [f"{name}: all of it, and it gives no reason"])
     counts = COUNTED.findall(output) if name == "prove" else []
     passed, failed = map(int, counts[-1]) if counts else (int(status == 0), 0)
-    failed = max(failed, int(status != 0))
-    state = "failed" if failed else "passed"
-    return Result(state, f"it ended with status {status}" * bool(status), passed, failed, [f"{name}: {it}" for it in skips])
+    return Result(passed, max(failed, int(status != 0)), skips, f"it ended with status {status}" * bool(status))
 
 
 def files(root: Path) -> dict[str, tuple[int, ...]]:
@@ -190,8 +196,8 @@ def differing(before: dict[str, tuple[int, ...]], after: dict[str, tuple[int, ..
 
 
 def environment(jobs: int) -> dict[str, str]:
-    """Returns the environment of the checks. They run with a variable CDPATH, as some people have it: then `cd` writes the
-    name of the folder, and a script that reads this output must be prepared for it."""
+    """Returns the environment of the checks. They run with a variable CDPATH, as some people have it: then `cd` writes
+    the name of the folder, and a script that reads this output must be prepared for it."""
     paths = (".", "python", "tools", "crates/fv_run_tests/rows")
     return {
         **os.environ,
@@ -205,13 +211,15 @@ def environment(jobs: int) -> dict[str, str]:
 
 
 def usual_jobs() -> int:
-    """Returns the number of checks that run side by side: one for each processor, if there are 4 GB for each (the largest
-    check of rt ci takes 3). By default, rt ci estimates two to three times the memory that a check takes, and starts the
-    crate with the longest chain last."""
+    """Returns the number of checks that run side by side: one for each processor, if there are 4 GB for each (the
+    largest check of rt ci takes 3). By default, rt ci estimates two to three times the memory that a check takes, and
+    starts the crate with the longest chain last."""
     given = os.environ.get("RT_JOBS", "")
     with open("/proc/meminfo", encoding="utf-8") as file:
         free = next(int(line.split()[1]) for line in file if line.startswith("MemAvailable:"))
-    return int(given) if given.isdigit() and int(given) else max(1, min(len(os.sched_getaffinity(0)), free // 4_000_000))
+    return (
+        int(given) if given.isdigit() and int(given) else max(1, min(len(os.sched_getaffinity(0)), free // 4_000_000))
+    )
 
 
 def descendants() -> list[int]:
@@ -235,10 +243,8 @@ def end_all() -> None:
     for sign, seconds in ((signal.SIGINT, 5), (signal.SIGTERM, 2), (signal.SIGKILL, 5)):
         left = descendants()
         for process in left:
-            try:
+            with contextlib.suppress(ProcessLookupError):
                 os.kill(process, sign)
-            except ProcessLookupError:
-                pass
         end = time.monotonic() + seconds
         while left and time.monotonic() < end:
             time.sleep(0.05)
@@ -268,10 +274,10 @@ class Run:
         something that it needs is not built."""
         for name in check.first():
             if name in self.results and self.results[name].state == "failed":
-                return Result("failed", f"not run, because {name} has failed", failed=1)
+                return Result(failed=1, why=f"not run, because {name} has failed")
         for path, why in map(MADE.__getitem__, check.needs):
             if not (ROOT / path).exists():
-                return Result("skipped", skips=[f"{check.name}: all of it, {why}"])
+                return Result(skips=[f"{check.name}: all of it, {why}"])
         return None
 
     def try_one(self, check: Check) -> None:
@@ -280,7 +286,7 @@ class Run:
         try:
             result = counted(check.name, self.status(check), self.output(check.name))
         except Exception as error:  # whatever it is, the check has failed, and the run goes on
-            result = Result("failed", str(error), failed=1)
+            result = Result(failed=1, why=str(error))
         self.ended.put((check, result, time.monotonic() - began))
 
     def status(self, check: Check) -> int:
@@ -295,23 +301,14 @@ class Run:
             path.write_text("".join(f"{check.name}: {it}\n" for it in lines), encoding="utf-8")
             return int(bool(lines))
         none, words = subprocess.DEVNULL, check.words(self.given.chosen[check.name])
-        with path.open("wb") as file:
-            process = subprocess.Popen(
-                words, cwd=ROOT, env=env, stdin=none, stdout=file, stderr=file, start_new_session=True
-            )
-        return self.wait(check, process)
-
-    def wait(self, check: Check, process: subprocess.Popen[bytes]) -> int:
-        """Waits for a check to end, and shows its output until then if its lines are wanted. Returns its status."""
-        if not self.is_live and check.name != "prove":
-            return process.wait()
-        with (self.room / f"{check.name}.said").open("rb") as file:
-            while True:
-                status = process.poll()
-                print(file.read().decode(errors="replace"), end="", flush=True)
-                if status is not None:
-                    return status
-                time.sleep(0.1)
+        with path.open("wb") as file, path.open(encoding="utf-8", errors="replace") as said:
+            process = subprocess.Popen(words, 0, None, none, file, file, cwd=ROOT, env=env, start_new_session=True)
+            while process.returncode is None:
+                with contextlib.suppress(subprocess.TimeoutExpired):
+                    process.wait(0.1)
+                if self.is_live or check.name == "prove":
+                    print(said.read(), end="", flush=True)
+        return process.returncode
 
     def start(self) -> None:
         """Starts the checks that can be started now, in the order of the table."""
@@ -351,8 +348,8 @@ class Run:
             print("".join(f"    {it}\n" for it in shown), end="", flush=True)
 
     def summary(self) -> int:
-        """Lists what failed and what was skipped, and prints the last line. Returns the exit status, which is 0 if nothing
-        failed. With --strict, nothing may be skipped either."""
+        """Lists what failed and what was skipped, and prints the last line. Returns the exit status, which is 0 if
+        nothing failed. With --strict, nothing may be skipped either."""
         found = [self.results[it.name] for it in self.checks]
         wrong = [it.name for it in self.checks if self.results[it.name].state == "failed"]
         skips = [skip for it in found for skip in it.skips]
@@ -389,12 +386,6 @@ def chosen(reader: argparse.ArgumentParser, checks: tuple[Check, ...]) -> argpar
     return given
 
 
-def listed(checks: list[Check]) -> Iterator[str]:
-    """Yields the lines of --list. An asterisk marks the checks of the quick run."""
-    for it in checks:
-        yield f"{it.name:8} {'*' if it.kind & QUICK else ' '} {it.shows}" + f" (after {', '.join(it.first())})" * bool(it.first())
-
-
 def arguments() -> argparse.ArgumentParser:
     """Returns a reader of the arguments before `--`."""
     form = argparse.RawDescriptionHelpFormatter
@@ -417,11 +408,15 @@ def main(checks: tuple[Check, ...] = CHECKS) -> int:
     """Runs the checks that the arguments choose. Returns the exit status."""
     given = chosen(arguments(), checks)
     if given.list:
-        print(*listed([it for it in checks if it.name in given.chosen]), sep="\n")
+        for it in (it for it in checks if it.name in given.chosen):
+            after = f" (after {', '.join(it.first())})" * bool(it.first())
+            print(f"{it.name:8} {'*' if it.kind & QUICK else ' '} {it.shows}{after}")
         return 0
     if "prove" in given.chosen and subprocess.run(["tools/prove.py", "--kit"], cwd=ROOT, check=False).returncode:
         return 1
-    ctypes.CDLL(None).prctl(36, 1)  # PR_SET_CHILD_SUBREAPER: a process whose parent has ended becomes a child of this one
+    ctypes.CDLL(None).prctl(
+        36, 1
+    )  # PR_SET_CHILD_SUBREAPER: a process whose parent has ended becomes a child of this one
     for number in (signal.SIGTERM, signal.SIGHUP):
         signal.signal(number, interrupt)
     os.umask(0o022)

@@ -1,6 +1,6 @@
 /* SPDX-License-Identifier: BSD-2-Clause-Patent */
 /* The checks of the arguments of a call: rules 1 to 3 of fv.h. They read no byte of an argument. This file is not
- * proved: tests/arguments.c tries it. */
+ * proved: tests/libfv/arguments.c tries it. */
 #ifndef ARGUMENTS_H
 #define ARGUMENTS_H
 

@@ -1,7 +1,7 @@
 /* SPDX-License-Identifier: BSD-2-Clause-Patent */
-/* The calls of fv.h that are made over proved calls. Each call checks its pointers, sizes and choices, and passes them on to the
- * proved call of the same name with the prefix fvp_, which has the same parameters. This layer reads no byte of an
- * input, and changes no result. This file is not proved: tests/arguments.c and tests/layer.c try it.
+/* The calls of fv.h that are made over proved calls. Each call checks its pointers, sizes and choices, and passes them
+ * on to the proved call of the same name with the prefix fvp_, which has the same parameters. This layer reads no byte
+ * of an input, and changes no result. This file is not proved: tests/libfv/arguments.c and tests/libfv/layer.c try it.
  *
  * The proved calls take slices and references, as Rattle and Rust do. So none of their pointers may be NULL, each
  * pointer must be aligned, a slice has at most half of the addresses, and a buffer or result must not overlap any other

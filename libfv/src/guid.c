@@ -1,5 +1,6 @@
 /* SPDX-License-Identifier: BSD-2-Clause-Patent */
-/* The text of a GUID, and a GUID from its text. This file is not proved: tests/guid.c tries it. */
+/* The text of a GUID, and a GUID from its text. This file is not proved:
+ * tests/fuzz/libfv/guid.c and tests/libfv/fields.c try it. */
 #include "arguments.h"
 
 /* The place among the bytes of a GUID of each byte of the text, in the order of the text. The first three fields have

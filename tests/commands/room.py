@@ -13,9 +13,10 @@ import unittest
 from collections.abc import Callable
 from pathlib import Path
 from typing import Any, cast
+from unittest import mock
 
 from tests import making
-from tests.frame import RoomCase, Tests
+from tests.frame import LIBRARY, RoomCase, Tests
 
 # EDK II's tools are in the PATH, or in the folder that EDK2_BIN names.
 EDK2_PATH = os.pathsep.join([*filter(None, [os.environ.get("EDK2_BIN")]), os.environ["PATH"]])
@@ -50,6 +51,16 @@ class ImageCase(RoomCase):
         super().setUpClass()
         for name, data in ({name: make() for name, make in making.IMAGES.items()} | cls.images()).items():
             (cls.room / name).write_bytes(data)
+
+    def setUp(self) -> None:
+        super().setUp()
+        self.set_variables(LIBFV=str(LIBRARY))  # for scripts that import the package
+
+    def set_variables(self, **variables: str) -> None:
+        """Sets variables of the environment until the test ends."""
+        patched = mock.patch.dict(os.environ, variables)
+        patched.start()
+        self.addCleanup(patched.stop)
 
     def said(self, status: int, *words: str | Path, **more: Any) -> str:
         """Runs a command, and checks its status. Returns what it writes to standard output."""

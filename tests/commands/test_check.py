@@ -89,8 +89,7 @@ class Check(ImageCase):
         for name in (b"a\x01.fd", b"a\x02.fd", rb"a\x01.fd"):
             Path(os.fsdecode(name)).write_bytes(Path("plain.fv").read_bytes())
         Path("a?.fd").write_bytes(Path("front.fv").read_bytes())
-        names = b"".join(it + b"\n" for it in [*NAMED, b"", b"a\x01.fd"])
-        Path("names").write_bytes(names)
+        Path("names").write_bytes(b"\n\n".join(NAMED) + b"\n")
         words = ["fv-check", "--from", "names", "--to", "named"]
         for status in (0, 2):  # the second run adds nothing
             self.expect(status, "", *words, *["--no-status"] * (status == 0))
@@ -123,7 +122,8 @@ class Check(ImageCase):
 
     @needs_program
     def test_beside_the_program(self) -> None:
-        for image in sorted(making.IMAGES.keys() - {"fixed-inside.fv"}):  # the program reads it with its marks
+        # The program reads the marks in sections, and writes nothing for an image without a volume.
+        for image in sorted(making.IMAGES.keys() - {"fixed-inside.fv", "none.bin"}):
             with self.subTest(image=image):
                 wanted = self.verdicts_of_the_program(image)
                 status = 2 if "fault" in str(wanted) else int("not" in str(wanted))

@@ -31,7 +31,7 @@ from pathlib import Path
 from tests import making
 from tests.checks import ROOT, read
 from tests.commands.room import ImageCase
-from tests.frame import RoomCase, Tests, needs_library
+from tests.frame import LIBRARY, RoomCase, Tests, needs_library
 
 FOLDER = ROOT / "recipes/fleet"
 TASK = FOLDER / "fv-array.sh"
@@ -152,7 +152,8 @@ class Engines(RoomCase):
         self.folder = self.room / self._testMethodName
         self.folder.mkdir()
         os.chdir(self.folder)
-        self.variables = {**os.environ, **TWO_WORKERS, "HOME": str(self.folder), "PATH": PATH, ROOM: str(self.folder)}
+        own = {"HOME": str(self.folder), "PATH": PATH, "LIBFV": str(LIBRARY), ROOM: str(self.folder)}
+        self.variables = {**os.environ, **TWO_WORKERS, **own}
         self.addCleanup(lambda: self.kill(self.processes()))
         self.held, at = self.folder / "held.fd", COUNT * 3 // 4
         self.held.write_bytes(HELD)

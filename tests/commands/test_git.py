@@ -7,7 +7,6 @@ import os
 import re
 import shutil
 from pathlib import Path
-from unittest import mock
 
 from tests import making
 from tests.commands.room import GUIDS, ImageCase, Table
@@ -84,9 +83,7 @@ class InGit(ImageCase):
     def setUp(self) -> None:
         super().setUp()
         own = {"HOME": str(self.room), "GIT_CONFIG_NOSYSTEM": "1", "GIT_CONFIG_GLOBAL": "/dev/null", "GIT_PAGER": "cat"}
-        patched = mock.patch.dict(os.environ, own)
-        patched.start()
-        self.addCleanup(patched.stop)
+        self.set_variables(**own)
         for name in ("GIT_DIR", "GIT_WORK_TREE", "GIT_INDEX_FILE", "GIT_EXTERNAL_DIFF"):
             os.environ.pop(name, None)
         self.said(0, "git", "init", "-q", self._testMethodName)

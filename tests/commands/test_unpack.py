@@ -10,6 +10,7 @@ import io
 import json
 import lzma
 import os
+import re
 import shutil
 import struct
 import sys
@@ -148,6 +149,7 @@ ONLY = (
 )
 NOT_ONE: Table = (
     (1, "fv-unpack: --only Gamma: no part is called so in plain.fv", "--only", "Gamma", "plain.fv", "gamma"),
+    (1, r"fv-unpack: --only a\u000ab: no part is called so in plain.fv", "--only", "a\nb", "plain.fv", "gamma"),
     (1, "fv-unpack: --only Alpha/PE32: 2 parts: give the path of one of them\nfv-unpack: 00-volume/000-Alpha/pe32.efi\n"
         "fv-unpack: 01-volume/000-Alpha/pe32.efi", "--only", "Alpha/PE32", "twice.fd", "gamma"),
     (2, "fv-unpack: missing.fd: no such file\nmissing.fd: fault 25 at 0", "--only", "Alpha", "missing.fd", "gamma"),
@@ -357,6 +359,7 @@ class Unpack(PartsCase):
         self.assertEqual([os.stat(it).st_mode & 0o777 for it in ("modes", "modes/index.tsv")], [0o755, 0o644])
 
     def test_links_in_the_place_of_folders(self) -> None:
+        self.addCleanup(shutil.rmtree, "shared")  # what is left there is not ours
         ran = self.ran_alone(swap_folders)
         self.assertEqual((ran.returncode, ran.stderr), (0, ""))
         self.assertEqual(Path("victim").read_text(), "mine")
@@ -381,7 +384,7 @@ class Unpack(PartsCase):
         rows, words = self.rows("firmware.fd"), ["fv-unpack", "--list", "firmware.fd"]
         table = self.said(1, *words).splitlines()
         self.assertIn("  +0x80   8192  FFS2          01-volume/", table)
-        paths = [line.split("  ")[-1 - ("not opened" in line or ": " in line)] for line in table[1:]]
+        paths = re.findall(r"^.*  ([0-9o][^ \n]*)(?:  .*)?$", "\n".join(table), re.M)
         self.assertEqual(paths, [it["path"] for it in rows])
         self.assertEqual(len(self.said(0, "fv-unpack", "--list", "files.fd").splitlines()), 5104)
         lines = list(map(json.loads, self.said(1, *words, "--sums", "--json").splitlines()))

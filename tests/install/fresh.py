@@ -81,7 +81,9 @@ def run(root: Path, command: list[str]) -> int:
         return skip_all("fresh", WHAT, f"no mounts: {tried.stderr.strip()}")
     if command:
         return subprocess.run([*inside, *command], check=False).returncode
-    said = subprocess.run([*inside, "make", "check"], stdout=subprocess.PIPE, stderr=subprocess.STDOUT, text=True, check=False)
+    said = subprocess.run(
+        [*inside, "make", "check"], stdout=subprocess.PIPE, stderr=subprocess.STDOUT, text=True, check=False
+    )
     last = said.stdout.strip().rpartition("\n")[2]
     print(said.stdout if said.returncode else f"fresh: {WHAT}: {last}")
     return int(bool(said.returncode))

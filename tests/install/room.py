@@ -1,5 +1,6 @@
 # SPDX-License-Identifier: BSD-2-Clause-Patent
-"""The parts that the tests of installed files share: a copy of the repository, images, and tests of installed commands."""
+"""The parts that the tests of installed files share: a copy of the repository, images, and tests of installed
+commands."""
 
 from __future__ import annotations
 
@@ -22,7 +23,9 @@ NUMBERS = VERSION.partition("-")[0]
 MAJOR = NUMBERS.partition(".")[0]
 PROGRAM, ARCHIVE = "crates/fv_tool/out/fv_tool", "crates/fv_c/out/libfv_c.a"
 # The variables that change what make and the commands do.
-CHANGING = "CDPATH SOURCE_DATE_EPOCH PROGRAM ARCHIVE PREFIX DESTDIR BINDIR LIBDIR DATADIR PYTHONDIR PYTHONPATH FVTOOL LIBFV"
+CHANGING = (
+    "CDPATH SOURCE_DATE_EPOCH PROGRAM ARCHIVE PREFIX DESTDIR BINDIR LIBDIR DATADIR PYTHONDIR PYTHONPATH FVTOOL LIBFV"
+)
 # Only the folders of the system are in the PATH, so the commands use the files that are installed beside them.
 SYSTEM = ("env", "-i", "PATH=/usr/bin:/bin")
 # The lines of examples/volumes.* for the file `flash`, which has two volumes, and the name of the file in each of them.
@@ -37,8 +40,8 @@ def below(folder: Path) -> list[str]:
 
 
 class ImageCase(RoomCase):
-    """Tests in a room with the file `volume`, which is not canonical because its image has another filler after a section,
-    `flash`, and the images of tests/making.py (`made`)."""
+    """Tests in a room with the file `volume`, which is not canonical because its image has another filler after a
+    section, `flash`, and the images of tests/making.py (`made`)."""
 
     @classmethod
     def setUpClass(cls) -> None:
@@ -52,8 +55,11 @@ class ImageCase(RoomCase):
         (cls.room / "flash").write_bytes(bytes(64) + volume * 2)
         subprocess.run([sys.executable, making.__file__, cls.room / "made"], check=True)
 
-    def tools_work(self, folder: Path | str, made: Path | str, room: Path | str, *way: str, has_old_name: bool = True) -> None:
-        """Runs the installed commands of a folder over the made images, in a way and with a room for what they write."""
+    def tools_work(
+        self, folder: Path | str, made: Path | str, room: Path | str, *way: str, has_old_name: bool = True
+    ) -> None:
+        """Runs the installed commands of a folder over the made images, in a way and with a room for what they
+        write."""
 
         def says(status: int, command: str, *words: str) -> str:
             return self.runs(status, *way, *SYSTEM, f"{folder}/{command}", *words)
@@ -76,6 +82,7 @@ class InstallCase(ImageCase):
 
     is_built = True
     tree: Path
+    before: list[str]
 
     @classmethod
     def setUpClass(cls) -> None:
@@ -87,14 +94,16 @@ class InstallCase(ImageCase):
             place = cls.tree / path.relative_to(ROOT)
             place.parent.mkdir(exist_ok=True)
             shutil.copy2(path, place)
+        cls.before = below(cls.tree)
+
+    def setUp(self) -> None:
+        super().setUp()
+        self.addCleanup(lambda: self.assertEqual(below(self.tree), self.before))  # no file may appear in the tree
 
     @classmethod
     def make(cls, *words: str | Path, status: int = 0, says: str = "") -> None:
-        """Runs make in the tree, in which no file may appear."""
-        before = below(cls.tree)
+        """Runs make in the tree, and checks its status and that it says something."""
         words = ("make", "-C", cls.tree, *words)
         said = subprocess.run(words, stdout=subprocess.PIPE, stderr=subprocess.STDOUT, text=True, check=False)
         if said.returncode != status or says not in said.stdout:
             raise AssertionError(f"{words} ended with {said.returncode}: {said.stdout}")
-        if below(cls.tree) != before:
-            raise AssertionError(f"{words} changed the tree")

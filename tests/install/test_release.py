@@ -1,7 +1,7 @@
 # SPDX-License-Identifier: BSD-2-Clause-Patent
-"""Makes the source archive, a release and the Debian packages, twice where they must be the same, and tries the packages
-and the wheel in new roots of Debian. With the variable RELEASE, the roots get the files of that folder, which `make
-release` has made."""
+"""Makes the source archive, a release and the Debian packages, twice where they must be the same, and tries the
+packages and the wheel in new roots of Debian. With the variable RELEASE, the roots get the files of that folder, which
+`make release` has made."""
 
 from __future__ import annotations
 
@@ -19,6 +19,7 @@ from tests.checks import ROOT
 from tests.frame import RoomCase, needs_tool
 from tests.install.fresh import make_root, remove
 from tests.install.pages import dead_ends_of, lacking
+
 from tests.install.room import (
     ARCHIVE, MAJOR, NUMBERS, PROGRAM, PYTHONPATH, SYSTEM, VERSION, WANTED, ImageCase, InstallCase, below,
 )  # fmt: skip
@@ -33,8 +34,14 @@ IN_GIT = subprocess.run(["git", "rev-parse", "HEAD"], cwd=ROOT, capture_output=T
 
 def why_no_release() -> str:
     """Returns the reason why no release can be made here, or nothing."""
-    changed = IN_GIT and subprocess.run(["git", "status", "--porcelain"], cwd=ROOT, stdout=subprocess.PIPE, check=False).stdout
-    cargo = shutil.which("cargo") and subprocess.run(["cargo", "--version"], capture_output=True, text=True, check=False).stdout
+    changed = (
+        IN_GIT
+        and subprocess.run(["git", "status", "--porcelain"], cwd=ROOT, stdout=subprocess.PIPE, check=False).stdout
+    )
+    cargo = (
+        shutil.which("cargo")
+        and subprocess.run(["cargo", "--version"], capture_output=True, text=True, check=False).stdout
+    )
     numbers = [int(it) for it in (cargo or "cargo 0.0").split()[1].split(".")[:2]]
     if not IN_GIT or changed:
         return "not a git repository, or changes that are not committed"
@@ -109,8 +116,13 @@ class Archive(InstallCase):
     def test_gate(self) -> None:
         """`make release` stops unless the gate has passed over the same files and has skipped nothing."""
         tool = self.tree / "tools/statement"
+        self.addCleanup(shutil.rmtree, self.tree / "out")
         Path("lines").write_text("1 passed, 0 failed\n")
-        for status, line in ((1, "2 passed, 0 failed, 1 skipped"), (1, "2 passed, 1 failed"), (0, "2 passed, 0 failed")):
+        for status, line in (
+            (1, "2 passed, 0 failed, 1 skipped"),
+            (1, "2 passed, 1 failed"),
+            (0, "2 passed, 0 failed"),
+        ):
             self.runs(0, tool, "--keep", "lines")
             self.runs(0, tool, "--keep-all", line)
             self.runs(status, tool, "--is-complete")
@@ -191,8 +203,8 @@ class Packages(InstallCase):
 class Roots(ImageCase):
     """Installs and tries what a person without the kit can have, in new roots of Debian: the packages, as a job of
     recipes/ci installs them, README's examples, the commands, a program in C, and the shell of both jobs. Then the
-    packages of the library are removed, and pip installs the wheel in a virtual environment. At last everything is removed,
-    and the lintian of that Debian checks the packages."""
+    packages of the library are removed, and pip installs the wheel in a virtual environment. At last everything is
+    removed, and the lintian of that Debian checks the packages."""
 
     def test_jobs(self) -> None:
         """The jobs for GitHub and GitLab install in the same way."""
@@ -210,7 +222,8 @@ class Roots(ImageCase):
 
     def inside(self, *words: str) -> str:
         """Runs a command in the root, as root."""
-        return self.runs(0, "chroot", self.root, *words, env={"LC_ALL": "C", "DEBIAN_FRONTEND": "noninteractive"})
+        env = {"LC_ALL": "C", "DEBIAN_FRONTEND": "noninteractive", "TMPDIR": "/tmp"}
+        return self.runs(0, "chroot", self.root, *words, env=env)
 
     def install(self, *names: str) -> None:
         """Installs packages of Debian."""
@@ -262,7 +275,12 @@ class Roots(ImageCase):
     def try_packages(self) -> None:
         """Runs the installed program and commands, and programs in C and Python over the installed library."""
         flags = "$(pkg-config --cflags --libs libfv)"
-        self.inside("sh", "-e", "-c", f"cc -o /tmp/volumes /tmp/volumes.c {flags}; cc -o /tmp/archived /tmp/volumes.c -l:libfv.a")
+        self.inside(
+            "sh",
+            "-e",
+            "-c",
+            f"cc -o /tmp/volumes /tmp/volumes.c {flags}; cc -o /tmp/archived /tmp/volumes.c -l:libfv.a",
+        )
         for name in ("volumes", "archived"):
             self.assertEqual(self.as_user(0, f"/tmp/{name}", "/tmp/flash"), WANTED)
         self.assertRegex(self.runs(0, "readelf", "-d", self.root / "tmp/volumes"), r"NEEDED.*libfv\.so\.")
@@ -296,7 +314,9 @@ class Roots(ImageCase):
         for wheel in wheels:
             shutil.copy(wheel, self.root / "tmp")
         self.as_user(0, "python3", "-m", "venv", "/tmp/wheel/venv")
-        self.as_user(0, "/tmp/wheel/venv/bin/pip", "install", "--no-cache-dir", "--no-index", *(it.name for it in wheels))
+        self.as_user(
+            0, "/tmp/wheel/venv/bin/pip", "install", "--no-cache-dir", "--no-index", *(it.name for it in wheels)
+        )
         self.try_python("/tmp/wheel/venv/bin/python")
         self.tools_work("/tmp/wheel/venv/bin", "/tmp/made", "/tmp", *self.way, has_old_name=False)
         self.try_examples("/tmp/wheel/venv/bin")
@@ -313,7 +333,11 @@ class Roots(ImageCase):
             self.try_wheel(wheels)
         self.inside("apt-get", "purge", "--yes", "fvtool")
         self.assertFalse((self.root / "usr/share/fvtool").exists())
-        left = [it for it in owned if it.startswith("/") and os.path.lexists(f"{self.root}{it}") and not Path(f"{self.root}{it}").is_dir()]
+        left = [
+            it
+            for it in owned
+            if it.startswith("/") and os.path.lexists(f"{self.root}{it}") and not Path(f"{self.root}{it}").is_dir()
+        ]
         self.assertEqual(left, [])
 
     def try_static_program(self) -> None:

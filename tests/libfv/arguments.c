@@ -1,318 +1,202 @@
 /* SPDX-License-Identifier: BSD-2-Clause-Patent */
-/* Checks that each call with a fault returns FV_BAD_ARGUMENT for an argument that is not allowed, and writes nothing,
- * not even the fault. Also checks that a call does the same with NULL as with a pointer if NULL is allowed.
+/* Checks rules 1 to 4 of fv.h. Each call returns FV_BAD_ARGUMENT for an argument that is not allowed, and writes
+ * nothing, not even the fault. It does the same with NULL as with a pointer if NULL is allowed. It reads and writes
+ * only its arguments, which lie beside pages that cannot be touched.
  *
  * Each argument of a call is tried as NULL, one byte too far, and over each other argument. Sizes that reach past the
  * last address are tried too. The test fills the buffer and the results before a call. After a rejected call they must
  * be unchanged. */
-#include <fv.h>
-#include <stdbool.h>
-#include <stdio.h>
-#include <stdlib.h>
-#include <string.h>
+#define _DEFAULT_SOURCE
+#include "calls.h"
+#include <sys/mman.h>
+#include <unistd.h>
 
-#define EXPECT(holds)                                                            \
-    do {                                                                         \
-        if (!(holds)) {                                                          \
-            printf("arguments: line %d, %s: not %s\n", __LINE__, trying, #holds); \
-            exit(1);                                                             \
-        }                                                                        \
-    } while (0)
-
-enum { MOST = 7, ROOM = 8 };
-
-/* An argument that is a pointer: its target, the number, size and alignment of the elements there, and whether they are
- * a result. Only the fault has `may_be_null`. */
-struct argument {
-    const char *name;
-    void *at;
-    size_t count, size, align;
-    bool is_result, may_be_null;
-};
-
-/* A call: its pointers, in the order of its parameters, and the function that makes the call with them. */
-struct call {
-    const char *name;
-    int count;
-    struct argument all[MOST];
-    fv_result (*make)(const struct argument *);
-};
-
-static const char *trying = "";
-static char tried[200];
 static unsigned long refused, accepted;
-
-/* The inputs: a volume without files, an expression (TRUE, END), a list of one table and its end, a GUID. */
-static uint8_t volume[128], other[128], expression[] = {6, 8}, list[64], guid[16];
-/* The buffers and results that calls write to. */
-static union {
-    uint8_t bytes[1024];
-    fv_header headers[ROOM];
-    fv_volume_check checks[ROOM];
-    fv_cell cells[ROOM];
-    fv_node nodes[ROOM];
-    fv_sha256 digests[ROOM];
-    fv_hob hobs[ROOM];
-} buffer;
-/* Each result has room for a second element, so that a misaligned result overlaps no other result. */
-static fv_header header[2];
-static fv_sha256 digest[2];
-static fv_comparison found[2];
-static fv_fault fault[2];
-static size_t count[2], length[2];
-static uint32_t number[2];
-static char text[FV_DIFFERENCE_SIZE];
-
-#define AT(i) (a[i].at)
-#define SIZE(i) (a[i].count)
-
-static fv_result header_read(const struct argument *a)
-{
-    return fv_header_read(AT(0), SIZE(0), AT(1), AT(2));
-}
-static fv_result image_scan(const struct argument *a)
-{
-    return fv_image_scan(AT(0), SIZE(0), AT(1), SIZE(1), AT(2), AT(3));
-}
-static fv_result image_check(const struct argument *a)
-{
-    return fv_image_check(AT(0), SIZE(0), AT(1), SIZE(1), AT(2), AT(3));
-}
-static fv_result image_normalise(const struct argument *a)
-{
-    return fv_image_normalise(AT(0), SIZE(0), AT(1), SIZE(1), AT(2));
-}
-static fv_result volume_is_canonical(const struct argument *a)
-{
-    return fv_volume_is_canonical(AT(0), SIZE(0), AT(1), AT(2));
-}
-static fv_result volume_normalise(const struct argument *a)
-{
-    return fv_volume_normalise(AT(0), SIZE(0), AT(1), SIZE(1), AT(2));
-}
-static fv_result volume_unfix(const struct argument *a)
-{
-    return fv_volume_unfix(AT(0), SIZE(0), AT(1), SIZE(1), AT(2));
-}
-static fv_result volume_digest(const struct argument *a)
-{
-    return fv_volume_digest(AT(0), SIZE(0), AT(1), AT(2));
-}
-static fv_result volume_compare(const struct argument *a)
-{
-    return fv_volume_compare(AT(0), SIZE(0), AT(1), SIZE(1), AT(2), SIZE(2), AT(3), AT(4));
-}
-static fv_result volume_cells(const struct argument *a)
-{
-    return fv_volume_cells(AT(0), SIZE(0), AT(1), SIZE(1), AT(2), AT(3));
-}
-static fv_result volume_tree(const struct argument *a)
-{
-    return fv_volume_tree(AT(0), SIZE(0), AT(1), SIZE(1), AT(2), AT(3));
-}
-static fv_result volume_tree_digests(const struct argument *a)
-{
-    return fv_volume_tree_digests(AT(0), SIZE(0), AT(1), SIZE(1), AT(2), AT(3));
-}
-static fv_result volume_extract(const struct argument *a)
-{
-    return fv_volume_extract(AT(0), SIZE(0), 0, AT(1), SIZE(1), AT(2), AT(3));
-}
-static fv_result depex_evaluate(const struct argument *a)
-{
-    return fv_depex_evaluate(AT(0), SIZE(0), FV_PHASE_DXE, AT(1), SIZE(1), AT(2), AT(3));
-}
-static fv_result hobs_read(const struct argument *a)
-{
-    return fv_hobs_read(AT(0), SIZE(0), AT(1), SIZE(1), AT(2), AT(3), AT(4));
-}
-
-#define INPUT(of) {#of, of, sizeof of, 1, 1, false, false}
-#define BYTES {"buffer", buffer.bytes, sizeof buffer.bytes, 1, 1, true, false}
-#define TEXT {"text", text, sizeof text, 1, 1, true, false}
-#define ROWS(of) {#of, buffer.of, ROOM, sizeof *buffer.of, _Alignof(__typeof__(*buffer.of)), true, false}
-#define RESULT(of) {#of, of, 1, sizeof *of, _Alignof(__typeof__(*of)), true, false}
-#define FAULT {"fault", fault, 1, sizeof *fault, _Alignof(fv_fault), true, true}
-
-static const struct call calls[] = {
-    {"fv_header_read", 3, {INPUT(volume), RESULT(header), FAULT}, header_read},
-    {"fv_image_scan", 4, {INPUT(volume), ROWS(headers), RESULT(count), FAULT}, image_scan},
-    {"fv_image_check", 4, {INPUT(volume), ROWS(checks), RESULT(count), FAULT}, image_check},
-    {"fv_image_normalise", 3, {INPUT(volume), BYTES, FAULT}, image_normalise},
-    {"fv_volume_is_canonical", 3, {INPUT(volume), RESULT(number), FAULT}, volume_is_canonical},
-    {"fv_volume_normalise", 3, {INPUT(volume), BYTES, FAULT}, volume_normalise},
-    {"fv_volume_unfix", 3, {INPUT(volume), BYTES, FAULT}, volume_unfix},
-    {"fv_volume_digest", 3, {INPUT(volume), RESULT(digest), FAULT}, volume_digest},
-    {"fv_volume_compare", 5, {INPUT(volume), INPUT(other), TEXT, RESULT(found), FAULT}, volume_compare},
-    {"fv_volume_cells", 4, {INPUT(volume), ROWS(cells), RESULT(count), FAULT}, volume_cells},
-    {"fv_volume_tree", 4, {INPUT(volume), ROWS(nodes), RESULT(count), FAULT}, volume_tree},
-    {"fv_volume_tree_digests", 4, {INPUT(volume), ROWS(digests), RESULT(count), FAULT}, volume_tree_digests},
-    {"fv_volume_extract", 4, {INPUT(volume), BYTES, RESULT(count), FAULT}, volume_extract},
-    {"fv_depex_evaluate", 4, {INPUT(expression), {"guid", guid, 1, 16, 1, false, false}, RESULT(number), FAULT},
-     depex_evaluate},
-    {"fv_hobs_read", 5, {INPUT(list), ROWS(hobs), RESULT(count), RESULT(length), FAULT}, hobs_read},
-};
 
 /* All buffers and results. */
 static const struct {
     void *at;
     size_t size;
 } written[] = {
-    {&buffer, sizeof buffer}, {header, sizeof header}, {digest, sizeof digest}, {found, sizeof found},
-    {fault, sizeof fault},    {count, sizeof count},   {length, sizeof length}, {number, sizeof number},
-    {text, sizeof text},
+    {&buffer, sizeof buffer}, {header, sizeof header}, {digest, sizeof digest},
+    {found, sizeof found},    {guid, sizeof guid},     {fault, sizeof fault},
+    {count, sizeof count},    {length, sizeof length}, {number, sizeof number},
 };
+enum { WRITTEN = sizeof written / sizeof *written };
 
 static void fill(void)
 {
-    for (size_t i = 0; i < sizeof written / sizeof *written; i++) memset(written[i].at, 0xee, written[i].size);
+    for (size_t i = 0; i < WRITTEN; i++) memset(written[i].at, FILLED, written[i].size);
 }
 
 static bool is_full(const void *at, size_t size)
 {
     const uint8_t *byte = at;
-    while (size && *byte == 0xee) byte++, size--;
+    while (size && *byte == FILLED) byte++, size--;
     return !size;
 }
 
-static bool all_is_full(void)
+static void begin(const struct call *call, const char *how, const struct argument *it)
 {
-    for (size_t i = 0; i < sizeof written / sizeof *written; i++)
-        if (!is_full(written[i].at, written[i].size)) return false;
-    return true;
+    snprintf(trying, sizeof trying, "%s, %s %s", call->name, it->name, how);
+    fill();
 }
 
 /* Makes a call that must be rejected. */
-static void refuse(const struct call *call, const struct argument *all, const char *how, const char *name)
+static void refuse(const struct call *call, const struct argument *all, const char *how, const struct argument *it)
 {
-    uint8_t before[sizeof volume];
-    memcpy(before, volume, sizeof volume);
-    snprintf(tried, sizeof tried, "%s, %s %s", call->name, name, how);
-    trying = tried;
-    fill();
+    begin(call, how, it);
     EXPECT(call->make(all) == FV_BAD_ARGUMENT);
-    EXPECT(all_is_full());
-    EXPECT(!memcmp(before, volume, sizeof volume));
+    for (size_t i = 0; i < WRITTEN; i++) EXPECT(is_full(written[i].at, written[i].size));
+    EXPECT(!memcmp(volume, other, sizeof volume));
     refused++;
 }
 
 /* Makes a call that must not be rejected because of its arguments, and returns its result. */
-static fv_result accept(const struct call *call, const struct argument *all, const char *how, const char *name)
+static fv_result accept(const struct call *call, const struct argument *all, const char *how, const struct argument *it)
 {
-    snprintf(tried, sizeof tried, "%s, %s %s", call->name, name, how);
-    trying = tried;
-    fill();
+    begin(call, how, it);
     fv_result result = call->make(all);
     EXPECT(result != FV_BAD_ARGUMENT);
     accepted++;
     return result;
 }
 
-/* Returns whether this argument has a size of its own, so that it may be empty. */
-static bool has_size(const struct argument *it)
+/* Tries an argument as NULL. */
+static void try_null(const struct call *call, struct argument *all, int i, fv_result usual)
 {
-    return !(it->is_result && it->count == 1 && strcmp(it->name, "guid"));
+    all[i].at = NULL;
+    if (all[i].kind == FAULT)
+        EXPECT(accept(call, all, "NULL", all + i) == usual && is_full(fault, sizeof fault));
+    else
+        refuse(call, all, "NULL", all + i);
 }
 
-static void each_argument(const struct call *call)
+/* Tries an empty argument with an address and with NULL, with which the call must do the same. Then tries sizes that
+ * are too large: more than half of the addresses, too large by the size of a row, and past the last address. */
+static void try_sizes(const struct call *call, struct argument *all, int i)
 {
-    static const fv_fault none;
+    uint8_t seen[sizeof buffer];
+    void *at = all[i].at;
+    all[i].at = NULL, all[i].count = 0;
+    fv_result empty = accept(call, all, "NULL, and empty", all + i);
+    fv_fault of_null = *fault;
+    memcpy(seen, &buffer, sizeof seen);
+    all[i].at = at;
+    EXPECT(accept(call, all, "empty", all + i) == empty);
+    EXPECT(!memcmp(&of_null, fault, sizeof of_null) && !memcmp(seen, &buffer, sizeof seen));
+    all[i].count = SIZE_MAX;
+    refuse(call, all, "as large as can be", all + i);
+    all[i].count = SIZE_MAX / 2 / all[i].size + 1;
+    refuse(call, all, "larger than half of the addresses", all + i);
+    all[i].at = (void *)((uintptr_t)1 << 62); /* after all other arguments, so that it overlaps none of them */
+    refuse(call, all, "larger than half of the addresses, and after all others", all + i);
+    all[i].at = (void *)(UINTPTR_MAX - 127); /* aligned for each type */
+    all[i].count = 512 / all[i].size;
+    refuse(call, all, "past the last address", all + i);
+}
+
+static void try_misaligned(const struct call *call, struct argument *all, int i)
+{
+    void *at = all[i].at;
+    if (has_size(all + i)) all[i].count--;
+    for (size_t by = 1; by < all[i].align; by++) {
+        all[i].at = (uint8_t *)at + by;
+        refuse(call, all, "misaligned", all + i);
+    }
+    if (all[i].align == 1 || !has_size(all + i)) return;
+    all[i].count = 0;
+    refuse(call, all, "misaligned, and empty", all + i);
+}
+
+/* Tries an argument over another argument: at the first byte of the other, and over its last bytes only. */
+static void try_over(const struct call *call, struct argument *all, int i, const struct argument *its)
+{
+    size_t last = (its->count * its->size - 1) / all[i].align * all[i].align;
+    all[i].at = its->at;
+    if ((uintptr_t)its->at % all[i].align) return;
+    if (!is_result(all + i) && !is_result(its)) {
+        accept(call, all, "over another input", all + i);
+        return;
+    }
+    refuse(call, all, "over another argument", all + i);
+    all[i].at = (uint8_t *)its->at + last;
+    if ((uintptr_t)all[i].at % all[i].align == 0) refuse(call, all, "over the last bytes of another", all + i);
+}
+
+static void try_each_argument(const struct call *call)
+{
     struct argument all[MOST];
-    fv_result usual = accept(call, call->all, "as usual", "all");
+    fv_result usual = accept(call, call->all, "as usual", call->all);
     EXPECT(usual == FV_OK);
-    EXPECT(!memcmp(fault, &none, sizeof none));
-    for (int i = 0; i < call->count; i++) {
-        const struct argument *it = &call->all[i];
-        memcpy(all, call->all, sizeof all);
-        all[i].at = NULL;
-        if (it->may_be_null) {
-            EXPECT(accept(call, all, "NULL", it->name) == usual && is_full(fault, sizeof fault));
-        } else {
-            refuse(call, all, "NULL", it->name);
+    for (EACH_ARGUMENT(i, call)) {
+        if (call->all[i].kind == NUMBER) continue;
+#define AFRESH(test) (memcpy(all, call->all, sizeof all), test)
+        AFRESH(try_null(call, all, i, usual));
+        if (has_size(all + i)) AFRESH(try_sizes(call, all, i));
+        AFRESH(try_misaligned(call, all, i));
+        for (EACH_ARGUMENT(j, call))
+            if (i != j && call->all[j].kind != NUMBER) AFRESH(try_over(call, all, i, call->all + j));
+    }
+}
+
+/* Makes a call with each argument in pages of its own, at their end or their start. The pages before and after them
+ * cannot be touched, and inputs cannot be written to. The call must write what it writes elsewhere, and nothing else.
+ */
+static void try_in_pages(const struct call *call, bool at_end)
+{
+    enum { PAGE = 4096 };
+    struct argument all[MOST];
+    uint8_t *pages[MOST], *place;
+    fv_result usual = accept(call, call->all, "beside a page", call->all);
+    memcpy(all, call->all, sizeof all);
+    for (EACH_ARGUMENT(i, call)) {
+        if (all[i].kind == NUMBER) continue;
+        size_t size = all[i].count * all[i].size;
+        pages[i] = mmap(NULL, 3 * PAGE, PROT_NONE, MAP_PRIVATE | MAP_ANONYMOUS, -1, 0);
+        if (pages[i] == MAP_FAILED || mprotect(pages[i] + PAGE, PAGE, PROT_READ | PROT_WRITE)) exit(3);
+        memset(pages[i] + PAGE, FILLED, PAGE);
+        place = pages[i] + (at_end ? 2 * PAGE - size : PAGE);
+        if (!is_result(all + i)) {
+            memcpy(place, all[i].at, size);
+            mprotect(pages[i] + PAGE, PAGE, PROT_READ);
         }
-        if (has_size(it)) {
-            uint8_t seen[sizeof buffer];
-            /* Tries an empty argument with an address and with NULL. The call must do the same with both. */
-            all[i].count = 0;
-            fv_result empty = accept(call, all, "NULL, and empty", it->name);
-            fv_fault of_null = *fault;
-            memcpy(seen, &buffer, sizeof seen);
-            all[i].at = it->at;
-            EXPECT(accept(call, all, "empty", it->name) == empty);
-            EXPECT(!memcmp(&of_null, fault, sizeof of_null) && !memcmp(seen, &buffer, sizeof seen));
-            /* Tries sizes that are too large: more than half of the addresses, too large by the size of a row, and past
-             * the last address. */
-            memcpy(all, call->all, sizeof all);
-            all[i].count = SIZE_MAX;
-            refuse(call, all, "as large as can be", it->name);
-            all[i].count = SIZE_MAX / 2 / it->size + 1;
-            refuse(call, all, "larger than half of the addresses", it->name);
-            all[i].at = (void *)((uintptr_t)1 << 62); /* after all other arguments, so that it overlaps none of them */
-            refuse(call, all, "larger than half of the addresses, and after all others", it->name);
-            all[i].at = (void *)(UINTPTR_MAX - 127); /* aligned for each type */
-            all[i].count = 512 / it->size;
-            refuse(call, all, "past the last address", it->name);
-        }
-        memcpy(all, call->all, sizeof all);
-        if (it->align > 1) {
-            for (size_t by = 1; by < it->align; by++) {
-                all[i].at = (uint8_t *)it->at + by;
-                if (has_size(it)) all[i].count = it->count - 1;
-                refuse(call, all, "misaligned", it->name);
-            }
-            if (has_size(it)) {
-                all[i].count = 0;
-                refuse(call, all, "misaligned, and empty", it->name);
-            }
-        }
-        /* Tries an argument over another argument: at the first byte of the other, and over its last bytes only. */
-        for (int j = 0; j < call->count; j++) {
-            const struct argument *its = &call->all[j];
-            size_t length = its->count * its->size;
-            memcpy(all, call->all, sizeof all);
-            if (i == j) continue;
-            all[i].at = its->at;
-            if ((uintptr_t)its->at % it->align) continue;
-            if (it->is_result || its->is_result) {
-                refuse(call, all, "over another argument", it->name);
-                size_t last = (length - 1) / it->align * it->align;
-                all[i].at = (uint8_t *)its->at + last;
-                if ((uintptr_t)all[i].at % it->align) continue;
-                refuse(call, all, "over the last bytes of another", it->name);
-            } else {
-                accept(call, all, "over another input", it->name);
-            }
-        }
+        all[i].at = place;
+    }
+    EXPECT(call->make(all) == usual);
+    for (EACH_ARGUMENT(i, call)) {
+        if (all[i].kind == NUMBER) continue;
+        size_t size = all[i].count * all[i].size;
+        EXPECT(!memcmp(all[i].at, call->all[i].at, size));
+        if (is_result(all + i)) EXPECT(is_full(at_end ? pages[i] + PAGE : (uint8_t *)all[i].at + size, PAGE - size));
+        munmap(pages[i], 3 * PAGE);
     }
 }
 
 /* Tries arguments that are adjacent and do not overlap. */
-static void neighbours(void)
+static void try_neighbours(void)
 {
     struct {
-        uint8_t before[128];
-        uint8_t input[128];
-        uint8_t after[128];
+        uint8_t before[LENGTH], input[LENGTH], after[LENGTH];
     } near;
-    trying = "neighbours";
-    memcpy(near.input, volume, 128);
-    EXPECT(fv_volume_normalise(near.input, 128, near.before, 128, NULL) == FV_OK);
-    EXPECT(fv_volume_normalise(near.input, 128, near.after, 128, NULL) == FV_OK);
-    EXPECT(!memcmp(near.before, volume, 128) && !memcmp(near.after, volume, 128));
-    EXPECT(fv_volume_normalise(near.input, 128, near.before, 129, NULL) == FV_BAD_ARGUMENT);
-    EXPECT(fv_volume_normalise(near.input, 128, near.input + 127, 128, NULL) == FV_BAD_ARGUMENT);
-    EXPECT(fv_volume_normalise(near.input, 128, near.input, 128, NULL) == FV_BAD_ARGUMENT);
+    strcpy(trying, "neighbours");
+    memcpy(near.input, volume, LENGTH);
+    EXPECT(fv_volume_normalise(near.input, LENGTH, near.before, LENGTH, NULL) == FV_OK);
+    EXPECT(fv_volume_normalise(near.input, LENGTH, near.after, LENGTH, NULL) == FV_OK);
+    EXPECT(!memcmp(near.before, volume, LENGTH) && !memcmp(near.after, volume, LENGTH));
+    EXPECT(fv_volume_normalise(near.input, LENGTH, near.before, LENGTH + 1, NULL) == FV_BAD_ARGUMENT);
+    EXPECT(fv_volume_normalise(near.input, LENGTH, near.input + LENGTH - 1, LENGTH, NULL) == FV_BAD_ARGUMENT);
     /* Checks that an empty argument overlaps nothing. */
-    EXPECT(fv_volume_normalise(near.input, 128, near.input + 5, 0, NULL) == FV_BUFFER_TOO_SMALL);
-    EXPECT(fv_volume_normalise(near.before + 5, 0, near.before, 128, NULL) == FV_FAULT_TRUNCATED);
-    EXPECT(!memcmp(near.input, volume, 128));
+    EXPECT(fv_volume_normalise(near.input, LENGTH, near.input + 5, 0, NULL) == FV_BUFFER_TOO_SMALL);
+    EXPECT(fv_volume_normalise(near.before + 5, 0, near.before, LENGTH, NULL) == FV_FAULT_TRUNCATED);
+    EXPECT(!memcmp(near.input, volume, LENGTH));
 }
 
-static void phases(void)
+static void try_phases(void)
 {
     uint32_t value = 7;
-    trying = "phases";
-    memset(fault, 0xee, sizeof fault);
+    strcpy(trying, "phases");
+    memset(fault, FILLED, sizeof fault);
     for (uint32_t phase = 2; phase; phase <<= 1) {
         EXPECT(fv_depex_evaluate(expression, sizeof expression, phase, NULL, 0, &value, fault) == FV_BAD_ARGUMENT);
         EXPECT(fv_depex_evaluate(expression, sizeof expression, phase | 1, NULL, 0, &value, fault) == FV_BAD_ARGUMENT);
@@ -320,93 +204,75 @@ static void phases(void)
     }
     EXPECT(fv_depex_evaluate(expression, sizeof expression, UINT32_MAX, NULL, 0, &value, fault) == FV_BAD_ARGUMENT);
     EXPECT(fv_depex_evaluate(expression, sizeof expression, FV_PHASE_PEI, NULL, 0, &value, fault) == FV_OK);
-    EXPECT(value == FV_DEPEX_TRUE && fault->result == 0);
+    EXPECT(value == FV_DEPEX_FALSE && fault->result == 0);
 }
 
-/* Checks that NULL as the input is the same as an empty input. */
-static void nothing(void)
+/* Checks what each call does without an input, without a buffer, and with NULL for both. */
+static void try_nothing(void)
 {
-    uint32_t value = 9;
-    trying = "no input";
-    *count = *length = 9;
-    EXPECT(fv_header_read(NULL, 0, header, fault) == FV_FAULT_TRUNCATED && fault->result == FV_FAULT_TRUNCATED);
-    EXPECT(fv_image_scan(NULL, 0, NULL, 0, count, NULL) == FV_OK && *count == 0);
-    *count = 9;
-    EXPECT(fv_image_check(NULL, 0, NULL, 0, count, NULL) == FV_OK && *count == 0);
-    EXPECT(fv_image_normalise(NULL, 0, NULL, 0, NULL) == FV_OK);
-    EXPECT(fv_volume_is_canonical(NULL, 0, &value, NULL) == FV_FAULT_TRUNCATED && value == 9);
-    EXPECT(fv_volume_normalise(NULL, 0, NULL, 0, NULL) == FV_FAULT_TRUNCATED);
-    EXPECT(fv_volume_unfix(NULL, 0, NULL, 0, NULL) == FV_FAULT_TRUNCATED);
-    EXPECT(fv_volume_digest(NULL, 0, digest, NULL) == FV_FAULT_TRUNCATED);
-    EXPECT(fv_volume_compare(NULL, 0, NULL, 0, NULL, 0, found, fault) == FV_FAULT_TRUNCATED && fault->input == 0);
-    EXPECT(fv_volume_compare(volume, sizeof volume, NULL, 0, NULL, 0, found, fault) == FV_FAULT_TRUNCATED);
-    EXPECT(fault->input == 1 && fault->result == FV_FAULT_TRUNCATED);
-    *count = 9;
-    EXPECT(fv_volume_cells(NULL, 0, NULL, 0, count, NULL) == FV_FAULT_TRUNCATED && *count == 9);
-    EXPECT(fv_volume_tree(NULL, 0, NULL, 0, count, NULL) == FV_FAULT_TRUNCATED && *count == 9);
-    EXPECT(fv_volume_tree_digests(NULL, 0, NULL, 0, count, NULL) == FV_FAULT_TRUNCATED && *count == 9);
-    EXPECT(fv_volume_extract(NULL, 0, 0, NULL, 0, length, NULL) == FV_FAULT_TRUNCATED && *length == 9);
-    EXPECT(fv_depex_evaluate(NULL, 0, FV_PHASE_DXE, NULL, 0, &value, NULL) == FV_FAULT_DEPEX_NO_END && value == 9);
-    EXPECT(fv_hobs_read(NULL, 0, NULL, 0, count, length, NULL) == FV_FAULT_HOB_NO_END && *count == 9 && *length == 9);
-    /* Room 0 asks for the number of rows or bytes. */
-    EXPECT(fv_volume_tree(volume, sizeof volume, NULL, 0, count, fault) == FV_BUFFER_TOO_SMALL && *count == 1);
-    EXPECT(fault->offset == 0 && fault->result == 0);
-    EXPECT(fv_volume_extract(volume, sizeof volume, 0, NULL, 0, length, NULL) == FV_BUFFER_TOO_SMALL && *length == 128);
-    *length = 9;
-    EXPECT(fv_volume_extract(volume, sizeof volume, 1, NULL, 0, length, fault) == FV_NOT_FOUND && *length == 9);
-    EXPECT(fault->offset == 0 && fault->result == 0);
-    EXPECT(fv_volume_compare(volume, sizeof volume, other, sizeof other, NULL, 0, found, NULL) == FV_BUFFER_TOO_SMALL);
-    EXPECT(found->same == 1 && found->text_length == 4 && found->reserved == 0);
-    EXPECT(fv_volume_compare(volume, sizeof volume, other, sizeof other, text, 4, found, NULL) == FV_BUFFER_TOO_SMALL);
-    EXPECT(fv_volume_compare(volume, sizeof volume, other, sizeof other, text, 5, found, NULL) == FV_OK);
-    EXPECT(!strcmp(text, "same"));
-}
-
-/* Checks that each result of the header has a sentence of its own, and no other number has a sentence of its own. */
-static void texts(void)
-{
-    const char *none = fv_result_text(0x7fffffff);
-    unsigned known = 0;
-    trying = "texts";
-    for (fv_result result = 0; result < 0x1000; result++) {
-        const char *it = fv_result_text(result);
-        EXPECT(it && *it);
-        known += strcmp(it, none) != 0;
+    static const fv_result results[CALLS] = {FV_FAULT_TRUNCATED,
+                                             FV_OK,
+                                             FV_OK,
+                                             FV_OK,
+                                             FV_FAULT_TRUNCATED,
+                                             FV_FAULT_TRUNCATED,
+                                             FV_FAULT_TRUNCATED,
+                                             FV_FAULT_TRUNCATED,
+                                             FV_FAULT_TRUNCATED,
+                                             FV_FAULT_TRUNCATED,
+                                             FV_FAULT_TRUNCATED,
+                                             FV_FAULT_TRUNCATED,
+                                             FV_FAULT_TRUNCATED,
+                                             FV_FAULT_DEPEX_NO_END,
+                                             FV_FAULT_HOB_NO_END,
+                                             FV_BUFFER_TOO_SMALL,
+                                             FV_BAD_GUID};
+    for (EACH_CALL(call)) {
+        struct argument all[MOST];
+        memcpy(all, call->all, sizeof all);
+        for (EACH_ARGUMENT(i, call))
+            if (has_size(all + i)) all[i].at = NULL, all[i].count = 0;
+        fv_result result = accept(call, all, "and all others, NULL and empty", all);
+        EXPECT(result == results[call - calls]);
+        if (result != FV_OK) EXPECT(is_full(count, sizeof count) && is_full(length, sizeof length));
+        if (result == FV_OK && call->all[2].at == count) EXPECT(*count == 0);
+        if (result && result < FV_BUFFER_TOO_SMALL) EXPECT(fault->result == result && !fault->offset && !fault->input);
     }
-    EXPECT(known == 25 + 4 + 5 + 5);
-    EXPECT(!strcmp(fv_result_text(FV_OK), "done") && !strcmp(fv_result_text(UINT32_MAX), none));
-    EXPECT(strcmp(fv_result_text(FV_FAULT_HOB_NO_END), none) && strcmp(fv_result_text(FV_BAD_ARGUMENT), none));
-    EXPECT(fv_version_number() == FV_VERSION_NUMBER && !strcmp(fv_version(), FV_VERSION));
-    EXPECT(FV_VERSION_NUMBER == (FV_VERSION_MAJOR << 16 | FV_VERSION_MINOR << 8 | FV_VERSION_PATCH));
+    strcpy(trying, "the second of two volumes is empty");
+    EXPECT(fv_volume_compare(volume, LENGTH, NULL, 0, NULL, 0, found, fault) == FV_FAULT_TRUNCATED &&
+           fault->input == 1);
 }
 
-/* A volume without files: FFS2, 128 bytes, of which 72 are its header. */
-static void make(void)
+/* Checks that an image above the limit is scanned, but neither checked nor normalised, and that an image at the limit
+ * is accepted. */
+static void try_large_image(void)
 {
-    static const uint8_t start[] = {0x78, 0xe5, 0x8c, 0x8c, 0x3d, 0x8a, 0x1c, 0x4f, 0x99, 0x35, 0x89, 0x61,
-                                    0x85, 0xc3, 0x2d, 0xd3, 128,  0,    0,    0,    0,    0,    0,    0,
-                                    '_',  'F',  'V',  'H',  0xff, 0xfe, 4,    0,    72,   0,    0,    0,
-                                    0,    0,    0,    2,    1,    0,    0,    0,    128};
-    unsigned sum = 0;
-    memset(volume, 0xff, sizeof volume);
-    memset(volume, 0, 72);
-    memcpy(volume + 16, start, sizeof start);
-    for (int i = 0; i < 72; i += 2) sum += volume[i] | (unsigned)volume[i + 1] << 8;
-    volume[50] = (uint8_t)-sum;
-    volume[51] = (uint8_t)(-sum >> 8);
-    memcpy(other, volume, sizeof other);
-    list[0] = 1, list[2] = 56;
-    list[56] = list[57] = 0xff, list[58] = 8;
+    uint8_t *image = mmap(NULL, FV_LENGTH_MAX + 8, PROT_READ, MAP_PRIVATE | MAP_ANONYMOUS | MAP_NORESERVE, -1, 0);
+    size_t rows = 7;
+    if (image == MAP_FAILED) exit(3);
+    strcpy(trying, "an image above the limit");
+    EXPECT(fv_image_check(image, FV_LENGTH_MAX + 1, NULL, 0, &rows, fault) == FV_FAULT_LENGTH && rows == 7);
+    EXPECT(fault->result == FV_FAULT_LENGTH && fault->offset == FV_LENGTH_MAX && fault->depth == 0);
+    EXPECT(fv_image_normalise(image, FV_LENGTH_MAX + 1, NULL, 0, fault) == FV_FAULT_LENGTH);
+    EXPECT(fault->offset == FV_LENGTH_MAX);
+    EXPECT(fv_image_check(image, FV_LENGTH_MAX, NULL, 0, &rows, fault) == FV_OK && rows == 0);
+    EXPECT(fv_image_normalise(image, FV_LENGTH_MAX, NULL, 0, fault) == FV_BUFFER_TOO_SMALL);
+    rows = 7;
+    EXPECT(fv_image_scan(image, FV_LENGTH_MAX + 8, NULL, 0, &rows, fault) == FV_OK && rows == 0);
+    munmap(image, FV_LENGTH_MAX + 8);
 }
 
 int main(void)
 {
-    make();
-    for (size_t i = 0; i < sizeof calls / sizeof *calls; i++) each_argument(&calls[i]);
-    neighbours();
-    phases();
-    nothing();
-    texts();
+    make_both();
+    for (EACH_CALL(call)) {
+        try_each_argument(call);
+        for (int at_end = 0; at_end < 2; at_end++) try_in_pages(call, at_end);
+    }
+    try_neighbours();
+    try_phases();
+    try_nothing();
+    try_large_image();
     printf("arguments: %lu calls are refused and %lu accepted, as they should be\n", refused, accepted);
     return 0;
 }

@@ -1,189 +1,175 @@
 /* SPDX-License-Identifier: BSD-2-Clause-Patent */
-/* Every call of fv.h that takes an input, in one form, for the tests that try all calls. */
+/* The calls of fv.h in one table, each with an input that was written by hand, for the tests that try all calls. */
 #ifndef CALLS_H
 #define CALLS_H
 
 #include <fv.h>
+#include <stdbool.h>
 #include <stdio.h>
 #include <stdlib.h>
 #include <string.h>
 
-struct arguments {
-    const uint8_t *in; /* fv_volume_compare takes it twice */
-    size_t size;
-    void *buffer;
-    size_t room; /* in elements of the buffer */
-    void *found; /* the small result */
-    fv_fault *fault;
+/* What a test tries at this moment. A test ends with this text if a condition does not hold. */
+static char trying[200] = "";
+#define EXPECT(holds)                                                                                                  \
+    do {                                                                                                               \
+        if (!(holds)) {                                                                                                \
+            printf("%s, line %d: %s: not %s\n", __FILE__, __LINE__, trying, #holds);                                   \
+            exit(1);                                                                                                   \
+        }                                                                                                              \
+    } while (0)
+
+enum { MOST = 6, ROOM = 8, FILE_AT = 72, DATA_AT = 96, DATA_LEN = 44, LENGTH = 160, FILLED = 0xee };
+
+/* The bytes of a volume with one file and 16 free bytes. The file has type 02, attribute 40 and these sections:
+ *   0: type 14 with an extended header and 6 bytes
+ *   1: a group of two sections, 2: type 19 with 5 bytes, and 3: a group of none
+ *   4: type 19 with 3 bytes */
+static uint8_t volume[LENGTH], other[LENGTH];
+#define NAME_BYTES {11, 12, 13, 14, 15, 16, 17, 18, 19, 20, 21, 22, 23, 24, 25, 26}
+static const uint8_t name[16] = NAME_BYTES;
+
+/* The other inputs: an expression (PUSH of the name, END), a list of its table, a block for a volume and the end block,
+ * and a text. */
+static uint8_t expression[18] = {2, 11, 12, 13, 14, 15, 16, 17, 18, 19, 20, 21, 22, 23, 24, 25, 26, 8};
+static uint8_t list[88] = {[0] = 1, [2] = 56, [56] = 5, [58] = 24, [64] = 1, 2, 3, 4, 5, 6, 7, 8,
+                           [72] = 0x10, 0x20, 0x30, 0x40, [80] = 255, 255, 8};
+static char text_of_guid[] = "0e0d0c0b-100f-1211-1314-15161718191a";
+
+static inline void put(uint8_t *to, const char *digits)
+{
+    for (unsigned byte; sscanf(digits, "%2x", &byte) == 1; digits += 2) *to++ = (uint8_t)byte;
+}
+
+/* Makes `volume`. The parameter is the size in the header of section 2; 9 is right. */
+static inline void make(unsigned inner)
+{
+    unsigned sum = 0, header = 0, data = 0;
+    memset(volume, 0xff, sizeof volume);
+    memset(volume, 0, FILE_AT);
+    put(volume + 16, "78e58c8c3d8a1c4f9935896185c32dd3a0000000000000005f465648fffe04004800");
+    put(volume + 54, "000201000000a0000000");
+    for (size_t i = 0; i < FILE_AT; i += 2) sum += volume[i] | (unsigned)volume[i + 1] << 8;
+    volume[50] = (uint8_t)-sum;
+    volume[51] = (uint8_t)(-sum >> 8);
+    memcpy(volume + FILE_AT, name, sizeof name);
+    put(volume + FILE_AT + 16, "00000240440000f8");
+    put(volume + DATA_AT, "ffffff140e00000007007600310000001400000309000019a1a2a3a4a50000000400000307000019b1b2b300");
+    volume[DATA_AT + 20] = (uint8_t)inner;
+    for (int i = 0; i < DATA_LEN; i++) data += volume[DATA_AT + i];
+    for (int i = 0; i < 23; i++) header += volume[FILE_AT + i];
+    volume[FILE_AT + 16] = (uint8_t)-header; /* the header checksum leaves out the file checksum and State */
+    volume[FILE_AT + 17] = (uint8_t)-data;
+}
+
+static inline void make_both(void)
+{
+    make(9);
+    memcpy(other, volume, sizeof other);
+}
+
+/* The buffers and results that calls write to. Each result has room for a second element, so that a misaligned result
+ * overlaps no other result. */
+static union {
+    uint8_t bytes[1024];
+    fv_header headers[ROOM];
+    fv_volume_check checks[ROOM];
+    fv_cell cells[ROOM];
+    fv_node nodes[ROOM];
+    fv_sha256 digests[ROOM];
+    fv_hob hobs[ROOM];
+    char text[FV_DIFFERENCE_SIZE];
+} buffer;
+static fv_header header[2];
+static fv_sha256 digest[2];
+static fv_comparison found[2];
+static fv_fault fault[2];
+static fv_guid guid[2];
+static size_t count[2], length[2];
+static uint32_t number[2];
+
+/* An argument: an input or a buffer with a size of its own, one const object, a result, the fault, or a number, which
+ * has no pointer. A pointer has a target with `count` elements of this size and alignment. */
+enum kind { NO_MORE, INPUT, BUFFER, OBJECT, RESULT, FAULT, NUMBER };
+struct argument {
+    enum kind kind;
+    const char *name;
+    void *at;
+    size_t count, size, align;
 };
 
-/* The small result that a call writes besides the buffer and the fault. COUNT and TEXT begin with the number of
- * elements, which a call also writes if the buffer is too small. The number of TEXT does not include the NUL. */
-enum found { NOTHING, HEADER, NUMBER, DIGEST, COUNT, TEXT, COUNT_AND_LENGTH };
-static const size_t found_size[] = {0, sizeof(fv_header), 4, sizeof(fv_sha256), 8, sizeof(fv_comparison), 16};
-
-/* The inputs. Each call is tried with one of them. */
-enum input { A_FILE, AN_EXPRESSION, A_LIST };
-
+/* A call: its arguments, in the order of its parameters, and the function that makes the call with them. */
 struct call {
     const char *name;
-    fv_result (*make)(const struct arguments *a);
-    size_t element; /* the bytes of an element of the buffer, 0 if it has none */
-    enum found found;
-    enum input input;
+    fv_result (*make)(const struct argument *);
+    struct argument all[MOST];
 };
 
-/* The expression PUSH TRUE AND END, and a hand-off list that consists of its table, a block for a volume and the end
- * block. */
-static const uint8_t expression[20] = {2, 1, 1, 1, 1, 1, 1, 1, 1, 1, 1, 1, 1, 1, 1, 1, 1, 6, 3, 8};
-static const uint8_t list[88] = {[0] = 1, [2] = 56, [56] = 5, [58] = 24, [80] = 255, [81] = 255, [82] = 8};
-static const fv_guid guid = {{1, 1, 1, 1, 1, 1, 1, 1, 1, 1, 1, 1, 1, 1, 1, 1}};
+#define P(i) (a[i].at)
+#define N(i) (a[i].count)
+#define MAKES(call, ...) static fv_result call(const struct argument *a) { return fv_##call(__VA_ARGS__); }
+MAKES(header_read, P(0), N(0), P(1), P(2))
+MAKES(image_scan, P(0), N(0), P(1), N(1), P(2), P(3))
+MAKES(image_check, P(0), N(0), P(1), N(1), P(2), P(3))
+MAKES(image_normalise, P(0), N(0), P(1), N(1), P(2))
+MAKES(volume_is_canonical, P(0), N(0), P(1), P(2))
+MAKES(volume_normalise, P(0), N(0), P(1), N(1), P(2))
+MAKES(volume_unfix, P(0), N(0), P(1), N(1), P(2))
+MAKES(volume_digest, P(0), N(0), P(1), P(2))
+MAKES(volume_compare, P(0), N(0), P(1), N(1), P(2), N(2), P(3), P(4))
+MAKES(volume_cells, P(0), N(0), P(1), N(1), P(2), P(3))
+MAKES(volume_tree, P(0), N(0), P(1), N(1), P(2), P(3))
+MAKES(volume_tree_digests, P(0), N(0), P(1), N(1), P(2), P(3))
+MAKES(volume_extract, P(0), N(0), N(1), P(2), N(2), P(3), P(4))
+MAKES(depex_evaluate, P(0), N(0), (uint32_t)N(1), P(2), N(2), P(3), P(4))
+MAKES(hobs_read, P(0), N(0), P(1), N(1), P(2), P(3), P(4))
+MAKES(guid_text, P(0), P(1), N(1))
+MAKES(guid_parse, P(0), N(0), P(1))
 
-static fv_result header_read(const struct arguments *a)
-{
-    return fv_header_read(a->in, a->size, a->found, a->fault);
-}
-
-static fv_result is_canonical(const struct arguments *a)
-{
-    return fv_volume_is_canonical(a->in, a->size, a->found, a->fault);
-}
-
-static fv_result digest(const struct arguments *a)
-{
-    return fv_volume_digest(a->in, a->size, a->found, a->fault);
-}
-
-static fv_result compare(const struct arguments *a)
-{
-    return fv_volume_compare(a->in, a->size, a->in, a->size, a->buffer, a->room, a->found, a->fault);
-}
-
-static fv_result extract_first(const struct arguments *a)
-{
-    return fv_volume_extract(a->in, a->size, 0, a->buffer, a->room, a->found, a->fault);
-}
-
-static fv_result extract_file(const struct arguments *a)
-{
-    return fv_volume_extract(a->in, a->size, 1, a->buffer, a->room, a->found, a->fault);
-}
-
-static fv_result extract_section(const struct arguments *a)
-{
-    return fv_volume_extract(a->in, a->size, 2, a->buffer, a->room, a->found, a->fault);
-}
-
-static fv_result depex_pei(const struct arguments *a)
-{
-    return fv_depex_evaluate(a->in, a->size, FV_PHASE_PEI, &guid, 1, a->found, a->fault);
-}
-
-static fv_result depex_dxe(const struct arguments *a)
-{
-    return fv_depex_evaluate(a->in, a->size, FV_PHASE_DXE, NULL, 0, a->found, a->fault);
-}
-
-static fv_result hobs_read(const struct arguments *a)
-{
-    size_t *count = a->found;
-    return fv_hobs_read(a->in, a->size, a->buffer, a->room, count, count ? count + 1 : NULL, a->fault);
-}
-
-/* The functions for calls that write as many bytes as their input has, and for calls that write rows. */
-#define REWRITES(call) \
-    static fv_result call(const struct arguments *a) { return fv_##call(a->in, a->size, a->buffer, a->room, a->fault); }
-#define WRITES_ROWS(call)                                                              \
-    static fv_result call(const struct arguments *a)                                   \
-    {                                                                                  \
-        return fv_##call(a->in, a->size, a->buffer, a->room, a->found, a->fault);      \
-    }
-REWRITES(image_normalise)
-REWRITES(volume_normalise)
-REWRITES(volume_unfix)
-WRITES_ROWS(image_scan)
-WRITES_ROWS(image_check)
-WRITES_ROWS(volume_cells)
-WRITES_ROWS(volume_tree)
-WRITES_ROWS(volume_tree_digests)
+#define BYTES(kind, of, count) {kind, #of, of, count, 1, 1}
+#define ELEMENTS(kind, of, count) {kind, #of, of, count, sizeof *of, _Alignof(__typeof__(*of))}
+#define VALUE(of) {NUMBER, #of, NULL, of, 0, 1}
+#define IN(of) BYTES(INPUT, of, sizeof of)
+#define OUT(of) BYTES(BUFFER, buffer.of, sizeof buffer.of)
+#define ROWS(of) ELEMENTS(BUFFER, buffer.of, ROOM)
+#define ONE(of) ELEMENTS(RESULT, of, 1)
+#define ITS_FAULT ELEMENTS(FAULT, fault, 1)
+#define CALL(call, ...) {"fv_" #call, call, {__VA_ARGS__}}
 
 static const struct call calls[] = {
-    {"fv_header_read", header_read, 0, HEADER, A_FILE},
-    {"fv_image_scan", image_scan, sizeof(fv_header), COUNT, A_FILE},
-    {"fv_image_check", image_check, sizeof(fv_volume_check), COUNT, A_FILE},
-    {"fv_image_normalise", image_normalise, 1, NOTHING, A_FILE},
-    {"fv_volume_is_canonical", is_canonical, 0, NUMBER, A_FILE},
-    {"fv_volume_normalise", volume_normalise, 1, NOTHING, A_FILE},
-    {"fv_volume_unfix", volume_unfix, 1, NOTHING, A_FILE},
-    {"fv_volume_digest", digest, 0, DIGEST, A_FILE},
-    {"fv_volume_compare", compare, 1, TEXT, A_FILE},
-    {"fv_volume_cells", volume_cells, sizeof(fv_cell), COUNT, A_FILE},
-    {"fv_volume_tree", volume_tree, sizeof(fv_node), COUNT, A_FILE},
-    {"fv_volume_tree_digests", volume_tree_digests, sizeof(fv_sha256), COUNT, A_FILE},
-    {"fv_volume_extract of the volume", extract_first, 1, COUNT, A_FILE},
-    {"fv_volume_extract of a file", extract_file, 1, COUNT, A_FILE},
-    {"fv_volume_extract of a section", extract_section, 1, COUNT, A_FILE},
-    {"fv_depex_evaluate in PEI", depex_pei, 0, NUMBER, AN_EXPRESSION},
-    {"fv_depex_evaluate in DXE", depex_dxe, 0, NUMBER, AN_EXPRESSION},
-    {"fv_hobs_read", hobs_read, sizeof(fv_hob), COUNT_AND_LENGTH, A_LIST},
+    CALL(header_read, IN(volume), ONE(header), ITS_FAULT),
+    CALL(image_scan, IN(volume), ROWS(headers), ONE(count), ITS_FAULT),
+    CALL(image_check, IN(volume), ROWS(checks), ONE(count), ITS_FAULT),
+    CALL(image_normalise, IN(volume), OUT(bytes), ITS_FAULT),
+    CALL(volume_is_canonical, IN(volume), ONE(number), ITS_FAULT),
+    CALL(volume_normalise, IN(volume), OUT(bytes), ITS_FAULT),
+    CALL(volume_unfix, IN(volume), OUT(bytes), ITS_FAULT),
+    CALL(volume_digest, IN(volume), ONE(digest), ITS_FAULT),
+    CALL(volume_compare, IN(volume), IN(other), OUT(text), ONE(found), ITS_FAULT),
+    CALL(volume_cells, IN(volume), ROWS(cells), ONE(count), ITS_FAULT),
+    CALL(volume_tree, IN(volume), ROWS(nodes), ONE(count), ITS_FAULT),
+    CALL(volume_tree_digests, IN(volume), ROWS(digests), ONE(count), ITS_FAULT),
+    CALL(volume_extract, IN(volume), VALUE(1), OUT(bytes), ONE(length), ITS_FAULT),
+    CALL(depex_evaluate, IN(expression), VALUE(FV_PHASE_DXE), ELEMENTS(INPUT, guid, 1), ONE(number), ITS_FAULT),
+    CALL(hobs_read, IN(list), ROWS(hobs), ONE(count), ONE(length), ITS_FAULT),
+    CALL(guid_text, ELEMENTS(OBJECT, guid, 1), OUT(text)),
+    CALL(guid_parse, IN(text_of_guid), ONE(guid)),
 };
 enum { CALLS = sizeof calls / sizeof *calls };
 
-/* Room for a small result of any call. */
-union found_room {
-    uint64_t numbers[8];
-    uint8_t bytes[64];
-};
-_Static_assert(sizeof(union found_room) >= sizeof(fv_header), "the largest small result");
+#define EACH_CALL(call) const struct call *call = calls; call < calls + CALLS; call++
+#define EACH_ARGUMENT(i, call) int i = 0; i < MOST && (call)->all[i].kind; i++
 
-/* The results of a call with the smallest buffer that it accepts, if the call has a buffer. */
-struct outcome {
-    fv_result result;
-    fv_fault fault;
-    union found_room found;
-    size_t needed; /* elements of the buffer; 0 unless the result is FV_OK */
-    uint8_t *buffer;
-};
-
-/* Returns the input of a call: the file, or one of the inputs above. */
-static const uint8_t *input_of(const struct call *call, const uint8_t *file, size_t size, size_t *input_size)
+/* Returns whether an argument is a pointer with a size of its own, so that it may be empty; and whether the call writes
+ * to it. */
+static inline bool has_size(const struct argument *it)
 {
-    *input_size = call->input == A_FILE ? size : call->input == A_LIST ? sizeof list : sizeof expression;
-    return call->input == A_FILE ? file : call->input == A_LIST ? list : expression;
+    return it->kind == INPUT || it->kind == BUFFER;
 }
 
-/* Returns the number of elements that a call without a buffer has asked for. */
-static size_t needed_by(const struct call *call, size_t size, const union found_room *found)
+static inline bool is_result(const struct argument *it)
 {
-    if (call->found == NOTHING) return size;
-    return call->found == TEXT ? (size_t)found->numbers[0] + 1 : (size_t)found->numbers[0];
-}
-
-/* Makes a call, first without a buffer, and then with a buffer of exactly the elements that it needs. */
-static struct outcome outcome_of(const struct call *call, const uint8_t *in, size_t size)
-{
-    struct outcome it = {.needed = 0};
-    struct arguments a = {in, size, NULL, 0, call->found == NOTHING ? NULL : &it.found, &it.fault};
-    it.result = call->make(&a);
-    if (it.result == FV_BUFFER_TOO_SMALL) it.needed = needed_by(call, size, &it.found);
-    it.buffer = malloc(it.needed * call->element + 1);
-    if (!it.buffer) abort();
-    a.buffer = it.buffer, a.room = it.needed;
-    if (it.needed) it.result = call->make(&a);
-    return it;
-}
-
-/* Reads a file into a block of exactly its size. Ends the process with status 3 if the file cannot be read. */
-static uint8_t *file_bytes(const char *path, size_t *size)
-{
-    FILE *file = fopen(path, "rb");
-    if (!file || fseek(file, 0, SEEK_END)) exit(3);
-    *size = (size_t)ftell(file);
-    rewind(file);
-    uint8_t *bytes = malloc(*size + !*size);
-    if (!bytes || fread(bytes, 1, *size, file) != *size) exit(3);
-    fclose(file);
-    return bytes;
+    return it->kind == BUFFER || it->kind == RESULT || it->kind == FAULT;
 }
 
 #endif

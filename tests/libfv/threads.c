@@ -1,60 +1,81 @@
 /* SPDX-License-Identifier: BSD-2-Clause-Patent */
-/* threads FILE TURNS: makes every call in several threads at once, over one input, and checks that each thread gets the
- * same results as one thread. Also built with -fsanitize=thread. The sanitizer checks this file, and in the library
- * only copies and blocks of memory. */
+/* threads FILE TURNS: makes every call in several threads at once, over the same inputs, and checks that each thread
+ * gets the same results as one thread. FILE is the input of the calls for volumes and images. Also built with
+ * -fsanitize=thread. The sanitizer checks this file, and in the library only copies and blocks of memory. */
 #include "calls.h"
 #include <pthread.h>
 
-enum { THREADS = 4 };
-static uint8_t *file;
+enum { THREADS = 4, MOST_FILE = 1 << 20, OWN_ROOM = 1 << 12 };
+static uint8_t file[MOST_FILE];
 static size_t size;
 static int turns;
+
+/* The result of a call, and what it wrote to each of its arguments. */
+struct outcome {
+    fv_result result;
+    uint8_t *written[MOST];
+};
 static struct outcome usual[CALLS];
 
-/* Returns whether two outcomes of a call differ. */
-static int differs(const struct outcome *a, const struct outcome *b, const struct call *call)
+static size_t bytes_of(const struct argument *it)
 {
-    if (a->result != b->result || memcmp(&a->fault, &b->fault, sizeof a->fault) || a->needed != b->needed) return 1;
-    if (memcmp(&a->found, &b->found, sizeof a->found)) return 1;
-    return !a->result && memcmp(a->buffer, b->buffer, a->needed * call->element);
+    return it->kind == BUFFER ? OWN_ROOM * it->size : it->count * it->size;
 }
 
-static void *work(void *unused)
+/* Makes a call with buffers and results of its own. */
+static struct outcome outcome_of(const struct call *call)
 {
-    long bad = 0;
-    (void)unused;
-    for (int i = 0; i < turns; i++) {
-        for (int which = 0; which < CALLS; which++) {
-            size_t input_size;
-            const uint8_t *in = input_of(&calls[which], file, size, &input_size);
-            struct outcome it = outcome_of(&calls[which], in, input_size);
-            bad += differs(&it, &usual[which], &calls[which]);
-            free(it.buffer);
-        }
+    struct outcome it = {0, {NULL}};
+    struct argument all[MOST];
+    memcpy(all, call->all, sizeof all);
+    for (EACH_ARGUMENT(i, call)) {
+        if (all[i].at == volume || all[i].at == other) all[i].at = file, all[i].count = size;
+        if (!is_result(all + i)) continue;
+        it.written[i] = malloc(bytes_of(all + i));
+        EXPECT(it.written[i]);
+        memset(it.written[i], FILLED, bytes_of(all + i));
+        all[i].at = it.written[i];
+        if (all[i].kind == BUFFER) all[i].count = OWN_ROOM;
     }
-    return (void *)bad;
+    it.result = call->make(all);
+    return it;
+}
+
+/* Compares two outcomes of a call, and frees the first. Returns whether they differ. */
+static bool differs(const struct call *call, struct outcome it, const struct outcome *its_usual)
+{
+    bool is_wrong = it.result != its_usual->result;
+    for (EACH_ARGUMENT(i, call)) {
+        if (!it.written[i]) continue;
+        is_wrong |= memcmp(it.written[i], its_usual->written[i], bytes_of(call->all + i)) != 0;
+        free(it.written[i]);
+    }
+    return is_wrong;
+}
+
+static void *work(void *wrong)
+{
+    for (int i = 0; i < turns; i++)
+        for (EACH_CALL(call)) *(long *)wrong += differs(call, outcome_of(call), usual + (call - calls));
+    return NULL;
 }
 
 int main(int argc, char **argv)
 {
     pthread_t threads[THREADS];
-    long bad = 0;
-    if (argc != 3) return 3;
-    file = file_bytes(argv[1], &size);
+    long wrong[THREADS] = {0}, all_wrong = 0;
+    FILE *input = argc == 3 ? fopen(argv[1], "rb") : NULL;
+    if (!input) return 3;
+    size = fread(file, 1, MOST_FILE, input);
+    fclose(input);
     turns = atoi(argv[2]);
-    for (int which = 0; which < CALLS; which++) {
-        size_t input_size;
-        const uint8_t *in = input_of(&calls[which], file, size, &input_size);
-        usual[which] = outcome_of(&calls[which], in, input_size);
-    }
-    for (int i = 0; i < THREADS; i++) pthread_create(&threads[i], NULL, work, NULL);
+    for (EACH_CALL(call)) usual[call - calls] = outcome_of(call);
+    for (int i = 0; i < THREADS; i++) pthread_create(&threads[i], NULL, work, &wrong[i]);
     for (int i = 0; i < THREADS; i++) {
-        void *b;
-        pthread_join(threads[i], &b);
-        bad += (long)b;
+        pthread_join(threads[i], NULL);
+        all_wrong += wrong[i];
     }
-    for (int which = 0; which < CALLS; which++) free(usual[which].buffer);
-    free(file);
-    printf("threads: %d of %d turns each, with %d calls, %ld wrong\n", THREADS, turns, CALLS, bad);
-    return bad != 0;
+    for (EACH_CALL(call)) all_wrong += differs(call, usual[call - calls], usual + (call - calls));
+    printf("threads: %d of %d turns each, with %d calls, %ld wrong\n", THREADS, turns, CALLS, all_wrong);
+    return all_wrong != 0;
 }

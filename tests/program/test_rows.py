@@ -1,13 +1,14 @@
 # SPDX-License-Identifier: BSD-2-Clause-Patent
-"""Runs each row of crates/fv_run_tests/rows over the program. Each row is a test, as in `rows.list.12`.
+"""Runs each row of crates/fv_run_tests/rows over the program. Each row is a test: `list.12` is the 12th row of list.rows,
+and `two-sections` is the volume of this name.
 
 A row is run over bytes and over hexadecimal text, which --hex reads. It is run only over text if an input is written as
 text. The first input is a file, and is then also given on standard input if the command can read it there. The status
 and all of standard output have to be as the row says, and standard error has to be empty. Each expression is put into a
 volume, which `check` reads. Some inputs are read only from standard input: volumes with expressions, the rows of
 `parts`, `lengths`, `bodies`, `read` and `streams`, and the full volumes. The rows of [flash images], [rejected images],
-[checked images], [unfit], [extents] and [values] are for tests/python/volumes.py, and the rows of [data] for
-tests/python/parts.py, which need the library.
+[checked images], [unfit], [extents] and [values] are for tests/python/test_rows.py, and the rows of [data] for
+tests/python/test_trees.py, which need the library.
 
 The number of rows has to be ROWS, so that no row gets lost unnoticed."""
 
@@ -31,7 +32,7 @@ from tests.checks import ROOT, read
 from tests.frame import PROGRAM, needs_program
 
 # The number of rows in all files, and the files, by their names and headings.
-ROWS = 1091
+ROWS = 1097
 FILES = {path.stem: rows.tables(path.stem) for path in sorted(rows.FOLDER.glob("*.rows"))}
 # The files whose rows describe runs of a command.
 RUNS = ["normalise", "extract", "scan", "hobs", "list", "sums", "check", "cells", "unfix", "compare", "placed", "text"]
@@ -380,11 +381,14 @@ class RowCase(unittest.TestCase):
     def id(self) -> str:
         return f"{__name__}.{self.name}"
 
+    __str__ = id
+
     def test_runs(self) -> None:
-        """Makes the runs side by side. Each run with an endless input takes 512 MB, so these follow one another."""
+        # The runs are made side by side. Each run with an endless input takes 512 MB, so these follow one another.
         with concurrent.futures.ThreadPoolExecutor(1 if self.name.startswith("endless.") else os.cpu_count()) as pool:
             wrong = [*filter(None, pool.map(fault_of, self.runs))]
-        self.assertFalse(wrong, "\n".join([f"{len(wrong)} runs are wrong:", *wrong[:20]]))
+        if wrong:
+            self.fail("\n".join([f"{len(wrong)} runs are wrong:", *wrong[:20]]))
 
 
 class Tables(unittest.TestCase):
@@ -410,7 +414,7 @@ def row_cases() -> Iterator[tuple[str, Iterator[Run]]]:
         for number, row in enumerate(FILES[file][heading], 1):
             yield ".".join(filter(None, (file, heading, str(number)))), call(row)
     for name, image in rows.images():
-        yield f"volumes.{name}", image_runs(name, image)
+        yield name, image_runs(name, image)
     for (heading, table), fault in zip(FILES["lengths"].items(), (0, 4, 2)):
         yield f"lengths.{heading}", length_runs(table, fault)
     yield "read", read_runs()

@@ -76,7 +76,7 @@ def main() -> int:
     strays = {key for key in words.groups if key[:2] in files} - first
     cited = {key for place in files | others for key in types_of_code(words.imports[place])}
     if len(laws) < 2 or not refusals:
-        wrong.append("the module headline or the file InputRejections does not have the laws that this script looks for")
+        wrong.append("the module headline or the file InputRejections lacks the laws that this script looks for")
     differing: dict[str, Set[object]] = {
         "PROVED's list differs from the files that the headline rests on": listed(headline) ^ files,
         "the headline's files contain definitions that the headline does not rest on": strays,

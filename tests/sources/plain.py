@@ -1,13 +1,14 @@
 #!/usr/bin/env python3
 # SPDX-License-Identifier: BSD-2-Clause-Patent
-"""Checks the words, sentences and widths of documents, comments of code, definitions and proofs, and the help of scripts
-(their docstrings and the texts of argparse).
+"""Checks the words, sentences and widths of documents, comments of code, definitions and proofs, and the help of
+scripts (their docstrings and the texts of argparse).
 
 - Documents and comments do not use the words below that have a plainer word. (The words of WORDS_OF_DOCUMENTS may be
   used in comments, and in CONTRIBUTING.md, which lists them.)
 - No sentence leaves out the noun that it is about ("What is installed has a page", "Those of a pad are not read"), and
   none turns a negative around ("is no volume").
-- No line is too wide. Documents, comments and help have at most 120 characters in a line, and cells of tables at most 200.
+- No line is too wide. Documents, comments and help have at most 120 characters in a line, and cells of tables at most
+  200.
 
 Words and sentences are not checked in code, in examples, in quoted texts, and in names that are in backticks or between
 asterisks (names of functions, definitions and clauses). CONTRIBUTING.md explains the style."""

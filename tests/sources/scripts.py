@@ -1,8 +1,8 @@
 # SPDX-License-Identifier: BSD-2-Clause-Patent
-"""Checks the scripts of the repository by the tools for their languages. `types` checks all scripts and modules in Python by
-one run of `mypy --strict` (Debian: mypy). `shell` checks all shell scripts by shellcheck (Debian: shellcheck), and checks
-that a script that reads what `cd` writes unsets CDPATH first: `cd` writes the name of the folder if that variable is set.
-Each check is skipped if its tool is not installed."""
+"""Checks the scripts of the repository by the tools for their languages. `types` checks all scripts and modules in
+Python by one run of `mypy --strict` (Debian: mypy). `shell` checks all shell scripts by shellcheck (Debian:
+shellcheck), and checks that a script that reads what `cd` writes unsets CDPATH first: `cd` writes the name of the
+folder if that variable is set. Each check is skipped if its tool is not installed."""
 
 from __future__ import annotations
 
@@ -23,7 +23,8 @@ IS_SHELL = re.compile(r"(?m)^#!.*[/ ](?:bash|sh)$|^# shellcheck shell=(?:bash|sh
 def said_by(*words: str) -> list[str]:
     """Returns what a tool writes about scripts, or a line with its exit status if it writes nothing and fails."""
     run = subprocess.run(words, capture_output=True, text=True, check=False)
-    return (run.stdout + run.stderr).splitlines() or [f"{words[0]} ended with status {run.returncode}"] * bool(run.returncode)
+    found = (run.stdout + run.stderr).splitlines()
+    return found or [f"{words[0]} ended with status {run.returncode}"] * bool(run.returncode)
 
 
 def types() -> int:

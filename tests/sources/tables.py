@@ -18,7 +18,8 @@ import textwrap
 from collections.abc import Iterator
 
 from tests.checks import ROOT, read, report
-from tests.sources.definitions import DOOR, Call, Entry, Key, Place, Words, calls, entries, imports, paragraphs, roots, sources
+from tests.sources.definitions import DOOR, Call, Entry, Key, Place, Words
+from tests.sources.definitions import calls, entries, imports, paragraphs, roots, sources
 
 MADE = re.compile(r"(?s)(?<=<!-- made -->\n).*?(?=\n<!-- end -->)")
 WIDTH, CELL = 120, 200
@@ -201,7 +202,7 @@ def main() -> int:
             with open(path, "w", encoding="utf-8") as file:
                 file.write(made)
         elif made != text:
-            wrong.append(f"{path} differs from the comments of the sources: tests/sources/tables.py --write")
+            wrong.append(f"{path} differs from the comments of the sources: tests/run.py tables -- --write")
     return report("tables", wrong)
 
 

@@ -1,6 +1,6 @@
 # SPDX-License-Identifier: BSD-2-Clause-Patent
-"""Tests tests/run.py with made checks, which pass, fail, skip a part, and try nothing. A skipped thing must never count as
-passed, and no process may be left. As a program, this module runs made checks as tests/run.py runs its checks."""
+"""Tests tests/run.py with made checks, which pass, fail, skip a part, and try nothing. A skipped thing must never count
+as passed, and no process may be left. As a program, this module runs made checks as tests/run.py runs its checks."""
 
 from __future__ import annotations
 
@@ -19,11 +19,6 @@ from tests.frame import RoomCase
 from tests.run import ALONE, Check, counted, differing, files, main
 
 
-def made(name: str, status: int, *lines: str) -> Check:
-    """Returns a check that writes lines and ends with a status."""
-    return script(name, f'printf "%s\\n" "$@"; exit {status}', *lines)
-
-
 def script(name: str, text: str, *words: str, kind: int = 0, after: tuple[str, ...] = ()) -> Check:
     """Returns a check that runs a script with some words."""
     return Check(name, shlex.join(["bash", "-c", text, name, *words]), kind, f"runs {text[:4]}", after)
@@ -32,16 +27,20 @@ def script(name: str, text: str, *words: str, kind: int = 0, after: tuple[str, .
 BESIDE = 'touch "$SHARED/$1"; until [ -e "$SHARED/$2" ]; do sleep 0.01; done'
 SINGLE = 'mkdir "$SHARED/one" && sleep 0.1 && rmdir "$SHARED/one"'
 SLOW = 'setsid sleep "$LONG" & (trap "" INT TERM; sleep "$LONG") & sleep "$LONG"'
+# Checks that write lines and end with a status. Only the counts of rt ci are added.
+ENDING: tuple[tuple[str, int, list[str]], ...] = (
+    ("good", 0, ["good: 3 calls"]),
+    ("other", 0, ["1 passed, 1 failed", "other: 2 calls"]),
+    ("bad", 1, ["bad: it differs"]),
+    ("partly", 0, ["partly: skipped: the shell, no zsh", "partly: 2 calls", "part: skipped: the page, no mandoc"]),
+    ("badly", 2, ["badly: skipped: the shell, no zsh", "badly: it differs"]),
+    ("idle", 77, ["idle: skipped: the types, no mypy (Debian: mypy)"]),
+    ("idlest", 77, ["idlest: skipped: one, no a", "idlest: skipped: two, no b"]),
+    ("mute", 77, ["mute: there is no tool"]),
+    ("texts", 0, ["texts: 3 are right, and 0 skipped: none", "not skipped: none"]),
+)
 MADE = (
-    made("good", 0, "good: 3 calls"),
-    made("other", 0, "1 passed, 1 failed", "other: 2 calls"),  # only the counts of rt ci are added
-    made("bad", 1, "bad: it differs"),
-    made("partly", 0, "partly: skipped: the shell, no zsh", "partly: 2 calls", "part: skipped: the page, no mandoc"),
-    made("badly", 2, "badly: skipped: the shell, no zsh", "badly: it differs"),
-    made("idle", 77, "idle: skipped: the types, no mypy (Debian: mypy)"),
-    made("idlest", 77, "idlest: skipped: one, no a", "idlest: skipped: two, no b"),
-    made("mute", 77, "mute: there is no tool"),
-    made("texts", 0, "texts: 3 are right, and 0 skipped: none", "not skipped: none"),
+    *(script(name, f'printf "%s\\n" "$@"; exit {status}', *lines) for name, status, lines in ENDING),
     Check("missing", "./there-is-no-such-command", 0, "has no command"),
     script("later", "true", after=("bad",)),
     script("latest", "true", after=("later",)),

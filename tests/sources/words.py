@@ -22,7 +22,7 @@ import re
 import sys
 from dataclasses import dataclass
 
-from tests.checks import ROOT, read, report
+from tests.checks import ROOT, found_by, read, report
 from tests.sources.definitions import DOOR, IMPORT, INNER, Words, door, roots
 
 PROOF_IMPORT = re.compile(
@@ -34,6 +34,8 @@ DIRECT = (INNER, "declared.", "contracts.")
 ROW_NAME = re.compile(r"(?m)^([\w-]+)[: ]")
 # The number of rows in STANDARD's table of wrong bodies. No row is ever dropped.
 WRONG_BODIES = 25
+# A file that a document names with its folder.
+NAMED = re.compile(r"`((?:crates|specs|src|proofs|docs|libfv|man|python|recipes|rust|tests|tools)/[\w./+-]+)`")
 # The line that begins a function or a constant.
 ITEM = re.compile(r"(?m)^[ \t]*(?:pub(?:\([a-z]+\))? )?(?:const )?(?:extern \"C\" )?(?:fn|const) (\w+)")
 
@@ -221,11 +223,11 @@ def paths() -> list[str]:
     """Returns the missing files among those that documents name by a link or with their folder. A part of a path in
     capitals, as NAME, matches any name."""
     wrong: list[str] = []
-    for document in sorted(it for where in ("*.md", "*/*.md", "rust/*/*.md", "tests/fuzz/*.md", "tests/fuzz/*/*.md") for it in glob.glob(where)):
+    for document in found_by("*.md", "*/*.md", "rust/*/*.md", "tests/**/*.md"):
         text, beside = read(document), os.path.dirname(document)
         linked = [os.path.join(beside, link) for link in re.findall(r"\]\(([\w./-]+)\)", text)]
         wrong += [f"{document} has a link to {path}, which is not there" for path in linked if not os.path.exists(path)]
-        for path in re.findall(r"`((?:crates|specs|src|proofs|docs|libfv|man|python|recipes|rust|tests|tools)/[\w./+-]+)`", text):
+        for path in NAMED.findall(text):
             any_part = re.sub(r"\b[A-Z]{2,}\b", "*", path)
             places = [any_part, os.path.join(beside, any_part), f"crates/*/{any_part}"]
             if not re.search(r"/out\b", path) and not any(glob.glob(place) for place in places):

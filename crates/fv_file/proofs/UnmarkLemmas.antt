@@ -27,7 +27,7 @@ cell_long s p at r c is = grind (arith, common_steps, ltb-false)
 fixed_known : (f : Fault) → (f.kind ≡ kinds.Fixed) ⊎ (f.kind ≢ kinds.Fixed)
 fixed_known f = grind (arith, common_steps)
 
--- a verdict that is no fault is a cell
+-- a verdict that is not a fault is a cell
 ok_there : (x : Result CellForm Fault) → ((f : Fault) → x ≡ Err f → ⊥) → (c : CellForm) × (x ≡ Ok c)
 ok_there (Ok c) none = (c, refl)
 ok_there (Err f) none = absurd (none f refl)

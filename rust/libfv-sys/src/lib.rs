@@ -1,7 +1,8 @@
 // SPDX-License-Identifier: BSD-2-Clause-Patent
 //! The declarations of `fv.h`, the header of libfv 2, which reads, checks, compares and rebuilds UEFI
-//! firmware volumes. The crate `libfv` has safe functions over them. The rules for callers are those
-//! of `fv.h`.
+//! firmware volumes. The crate `libfv` has safe functions over them. `fv.h` has the rules for
+//! callers, and explains each field and each call: a comment here is the first sentence of a
+//! comment there.
 //!
 //! Made from fv.h by libfv/generate: change fv.h, and run libfv/generate.
 
@@ -29,10 +30,7 @@ pub const FV_GUID_TEXT_SIZE: u32 = 37;
 /// The parent of the first row of a tree.
 pub const FV_NO_PARENT: u64 = u64::MAX;
 
-// The result of a call. The bits from 8 on show what the result is about: 0 a volume or an image,
-// 1 the call, 2 a dependency expression, 3 a hand-off list. For 0, 2 and 3 the low byte is the
-// number of the fault in FAULTS.md; but out of memory is 24 in every call. `fv_result_text` has a
-// sentence for each result.
+// The result of a call.
 pub const FV_OK: fv_result = 0;
 pub const FV_FAULT_TRUNCATED: fv_result = 1;
 pub const FV_FAULT_SIGNATURE: fv_result = 2;
@@ -75,7 +73,7 @@ pub const FV_FAULT_HOB_NO_END: fv_result = 0x305;
 
 // The kinds of cells of a volume's body: a valid file, even if it is superseded; a pad file; a
 // deleted file; a file whose data or header were never finished; erased bytes up to the end of the
-// volume. The state of the file decides between deleted and unfinished.
+// volume.
 pub const FV_CELL_FILE: u32 = 1;
 pub const FV_CELL_PAD: u32 = 2;
 pub const FV_CELL_DELETED: u32 = 3;
@@ -88,17 +86,13 @@ pub const FV_NODE_FILE: u32 = 2;
 pub const FV_NODE_SECTION: u32 = 3;
 
 // The kinds of contents of a row's part: a volume holds files; a file holds bytes or sections; a
-// section holds bytes, sections (it is a group) or a volume. The type of a file decides: it holds
-// sections if the type is 0x02 or 0x04 to 0x0F, and bytes otherwise, also for a security core
-// (0x03). A file of these types, or a group, holds sections even if it has no bytes: then no row
-// is below its row.
+// section holds bytes, sections (it is a group) or a volume.
 pub const FV_CONTENT_FILES: u32 = 0;
 pub const FV_CONTENT_BYTES: u32 = 1;
 pub const FV_CONTENT_SECTIONS: u32 = 2;
 pub const FV_CONTENT_VOLUME: u32 = 3;
 
-// The types of files, with the names of the specification after EFI_FV_FILETYPE_. A file may have
-// any other type too: 0xC0 to 0xDF are for vendors, and 0xE0 to 0xEF for debugging.
+// The types of files, with the names of the specification after EFI_FV_FILETYPE_.
 pub const FV_FILE_RAW: u32 = 0x01;
 pub const FV_FILE_FREEFORM: u32 = 0x02;
 pub const FV_FILE_SECURITY_CORE: u32 = 0x03;
@@ -116,8 +110,7 @@ pub const FV_FILE_MM_STANDALONE: u32 = 0x0E;
 pub const FV_FILE_MM_CORE_STANDALONE: u32 = 0x0F;
 pub const FV_FILE_FFS_PAD: u32 = 0xF0;
 
-// The types of sections, with the names of the specification after EFI_SECTION_. A section may
-// have any other type too.
+// The types of sections, with the names of the specification after EFI_SECTION_.
 pub const FV_SECTION_COMPRESSION: u32 = 0x01;
 pub const FV_SECTION_GUID_DEFINED: u32 = 0x02;
 pub const FV_SECTION_DISPOSABLE: u32 = 0x03;
@@ -134,12 +127,11 @@ pub const FV_SECTION_RAW: u32 = 0x19;
 pub const FV_SECTION_PEI_DEPEX: u32 = 0x1B;
 pub const FV_SECTION_MM_DEPEX: u32 = 0x1C;
 
-// The phase in which a dependency expression is evaluated. `FV_PHASE_DXE` is for DXE and for MM.
+// The phase in which a dependency expression is evaluated.
 pub const FV_PHASE_PEI: u32 = 0;
 pub const FV_PHASE_DXE: u32 = 1;
 
-// The value of a dependency expression. BEFORE and AFTER only say in which order drivers run, and
-// have no truth value: `FV_DEPEX_ORDER`.
+// The value of a dependency expression.
 pub const FV_DEPEX_FALSE: u32 = 0;
 pub const FV_DEPEX_TRUE: u32 = 1;
 pub const FV_DEPEX_ORDER: u32 = 2;
@@ -158,19 +150,14 @@ pub struct fv_sha256 {
     pub bytes: [u8; 32],
 }
 
-/// A fault and its place. All fields are 0 if there is no fault.
+/// A fault and its place.
 #[repr(C)]
 #[derive(Clone, Copy, Debug, Default, PartialEq, Eq, Hash)]
 pub struct fv_fault {
-    /// In bytes, from the first byte of the input.
     pub offset: u64,
-    /// The result of the call; in a row of `fv_image_check` the fault of that volume.
     pub result: fv_result,
-    /// The number of groups and opened volumes around the fault, 0 to 8.
     pub depth: u32,
-    /// 1 if the fault is in the second input of `fv_volume_compare`, otherwise 0.
     pub input: u32,
-    /// 0.
     pub reserved: u32,
 }
 
@@ -178,23 +165,14 @@ pub struct fv_fault {
 #[repr(C)]
 #[derive(Clone, Copy, Debug, Default, PartialEq, Eq, Hash)]
 pub struct fv_header {
-    /// Where the volume begins, from the first byte of the input; 0 from `fv_header_read`.
     pub offset: u64,
-    /// FvLength.
     pub length: u64,
-    /// Where its first file may begin, from the first byte of the volume.
     pub first_file: u64,
-    /// HeaderLength.
     pub header_length: u32,
-    /// Attributes.
     pub attributes: u32,
-    /// 2: FFS2, 3: FFS3.
     pub file_system: u32,
-    /// The value of an erased byte, 0 or 255.
     pub erased_byte: u32,
-    /// FvName of its extended header; zeros if it has none.
     pub name: fv_guid,
-    /// 0.
     pub reserved: u64,
 }
 
@@ -202,15 +180,10 @@ pub struct fv_header {
 #[repr(C)]
 #[derive(Clone, Copy, Debug, Default, PartialEq, Eq, Hash)]
 pub struct fv_volume_check {
-    /// Where the volume begins, from the first byte of the image.
     pub offset: u64,
-    /// FvLength.
     pub length: u64,
-    /// The fault of a rejected volume, at its offset in the image; otherwise all fields are 0.
     pub fault: fv_fault,
-    /// 1 if the volume is its own canonical image, otherwise 0.
     pub canonical: u32,
-    /// 0.
     pub reserved: u32,
 }
 
@@ -218,67 +191,41 @@ pub struct fv_volume_check {
 #[repr(C)]
 #[derive(Clone, Copy, Debug, Default, PartialEq, Eq, Hash)]
 pub struct fv_comparison {
-    /// The number of bytes of the text, without the NUL that ends it.
     pub text_length: u64,
-    /// 1 if the two volumes have the same meaning, otherwise 0.
     pub same: u32,
-    /// 0.
     pub reserved: u32,
 }
 
-/// A cell of a volume's body. The length of a valid file (`FV_CELL_FILE`) or a pad does not include
-/// the filler after it, but the length of a deleted or unfinished file does. The fields from
-/// header_length on are 0 in any cell that is neither a valid file nor a pad.
+/// A cell of a volume's body.
 #[repr(C)]
 #[derive(Clone, Copy, Debug, Default, PartialEq, Eq, Hash)]
 pub struct fv_cell {
-    /// From the first byte of the volume.
     pub offset: u64,
-    /// The number of its bytes.
     pub length: u64,
-    /// `FV_CELL_*`.
     pub kind: u32,
-    /// Of a valid file or a pad, 24 or 32: its data begin at offset + header_length.
     pub header_length: u32,
-    /// Type of a valid file or a pad: `FV_FILE_*` or another.
     pub efi_type: u32,
-    /// Attributes of a valid file or a pad, as stored: with 0x01 if its header is large.
     pub attributes: u32,
-    /// Name of a valid file or a pad.
     pub name: fv_guid,
-    /// 0.
     pub reserved: u64,
 }
 
-/// A volume, a file or a section of the tree of a volume. A field that it does not have is 0.
+/// A volume, a file or a section of the tree of a volume.
 #[repr(C)]
 #[derive(Clone, Copy, Debug, Default, PartialEq, Eq, Hash)]
 pub struct fv_node {
-    /// Where in the input the volume, the file's data or the section's body is stored.
     pub offset: u64,
-    /// The number of these bytes.
     pub length: u64,
-    /// The number of the row that holds it; `FV_NO_PARENT` for the first.
     pub parent: u64,
-    /// Its number among the parts that its parent holds, from 0.
     pub index: u64,
-    /// The number of rows around it.
     pub depth: u32,
-    /// `FV_NODE_*`.
     pub kind: u32,
-    /// `FV_CONTENT_*`.
     pub content: u32,
-    /// Type of a file (`FV_FILE_*` or another) or of a section (`FV_SECTION_*` or another).
     pub efi_type: u32,
-    /// Attributes of a volume; of a file, without bit 0x01 (it is set if header_length is 32).
     pub attributes: u32,
-    /// HeaderLength of a volume; file: 24 or 32, section: 4 or 8; their header ends at offset.
     pub header_length: u32,
-    /// FvName of a volume, or zeros if it has none; Name of a file.
     pub guid: fv_guid,
-    /// For a volume 2: FFS2, 3: FFS3.
     pub file_system: u32,
-    /// 0.
     pub reserved: [u32; 3],
 }
 
@@ -286,15 +233,10 @@ pub struct fv_node {
 #[repr(C)]
 #[derive(Clone, Copy, Debug, Default, PartialEq, Eq, Hash)]
 pub struct fv_hob {
-    /// The base address of the volume that an FV or FV2 block describes, otherwise 0.
     pub volume_base: u64,
-    /// The number of bytes of that volume, otherwise 0.
     pub volume_length: u64,
-    /// HobType.
     pub hob_type: u32,
-    /// HobLength.
     pub hob_length: u32,
-    /// 0.
     pub reserved: u64,
 }
 
@@ -340,23 +282,17 @@ check!(fv_node, 88, 8; offset: 0, length: 8, parent: 16, index: 24, depth: 32, k
 check!(fv_hob, 32, 8; volume_base: 0, volume_length: 8, hob_type: 16, hob_length: 20, reserved: 24);
 
 extern "C" {
-    /// Returns the version of the library that is loaded, as `FV_VERSION_NUMBER` has it. If its
-    /// first number, the result shifted right by 16, is not `FV_VERSION_MAJOR`, nothing else of
-    /// this header is true of that library.
+    /// Returns the version of the library that is loaded, as `FV_VERSION_NUMBER` has it.
     pub fn fv_version_number() -> u32;
 
     /// Returns the version of the library that is loaded as a text, ended by a NUL, as `FV_VERSION`
     /// has it.
     pub fn fv_version() -> *const c_char;
 
-    /// Returns a sentence, ended by a NUL, that explains a result. Each member of `fv_result` has
-    /// its own sentence, and all other numbers share a sentence. Never returns NULL.
+    /// Returns a sentence, ended by a NUL, that explains a result.
     pub fn fv_result_text(result: fv_result) -> *const c_char;
 
-    /// Reads the header of the volume with which the bytes begin. Checks only this header, and no
-    /// files: each of the `fv_volume_*` calls may still reject the volume. Takes no memory. Returns
-    /// `FV_OK`, and sets `*header`, if the bytes begin with a header and all bytes of its volume.
-    /// Otherwise returns the first fault, 1 to 9, and leaves `*header` unchanged.
+    /// Reads the header of the volume with which the bytes begin.
     pub fn fv_header_read(
         bytes: *const c_void,
         size: usize,
@@ -364,12 +300,7 @@ extern "C" {
         fault: *mut fv_fault,
     ) -> fv_result;
 
-    /// Finds the volumes of a flash image. A volume begins at each multiple of 8 from which on
-    /// `fv_header_read` finds no fault, unless this offset is in a volume that was found before.
-    /// Writes a row for each volume, in the order of the offsets, and the number of volumes to
-    /// `*count`. An image of any size is accepted. Returns `FV_OK`, or `FV_BUFFER_TOO_SMALL` if
-    /// `*count` > room. Returns `FV_OUT_OF_MEMORY` if memory runs out, and leaves `*count`
-    /// unchanged. Memory can run out only if a volume begins in the image.
+    /// Finds the volumes of a flash image.
     pub fn fv_image_scan(
         image: *const c_void,
         size: usize,
@@ -379,13 +310,7 @@ extern "C" {
         fault: *mut fv_fault,
     ) -> fv_result;
 
-    /// Checks each volume that `fv_image_scan` finds in a flash image. Writes a row for each, in
-    /// the order of the volumes, and their number to `*count`. A volume that has no canonical
-    /// image, since it does not fit, is not canonical. Returns `FV_OK` even if a volume is
-    /// rejected: its row has the fault, 1 to 21. Returns `FV_BUFFER_TOO_SMALL` if `*count` > room.
-    /// Returns `FV_FAULT_LENGTH` if size > `FV_LENGTH_MAX`, or `FV_OUT_OF_MEMORY`, and leaves
-    /// `*count` unchanged then. Memory can run out only if a volume begins in an image within the
-    /// limit.
+    /// Checks each volume that `fv_image_scan` finds in a flash image.
     pub fn fv_image_check(
         image: *const c_void,
         size: usize,
@@ -396,11 +321,7 @@ extern "C" {
     ) -> fv_result;
 
     /// Writes the flash image with each volume that `fv_image_scan` finds replaced by its canonical
-    /// image, and all other bytes kept, to the first `size` bytes of the buffer. Returns `FV_OK`.
-    /// Otherwise returns the first fault, 1 to 24: `FV_FAULT_LENGTH` if size > `FV_LENGTH_MAX`;
-    /// then the fault of the first volume that has no canonical image, with its offset in the flash
-    /// image. Memory can run out only if a volume begins in an image within the limit. Without a
-    /// fault, returns `FV_BUFFER_TOO_SMALL` if buffer_size < size.
+    /// image, and all other bytes kept, to the first `size` bytes of the buffer.
     pub fn fv_image_normalise(
         image: *const c_void,
         size: usize,
@@ -409,9 +330,7 @@ extern "C" {
         fault: *mut fv_fault,
     ) -> fv_result;
 
-    /// Checks whether the volume is its own canonical image. Returns `FV_OK` if the input is a
-    /// volume, and sets `*canonical` to 1 if it is its own image, or to 0 if it is not or has no
-    /// image. Otherwise returns the first fault, 1 to 21, or 24, and leaves `*canonical` unchanged.
+    /// Checks whether the volume is its own canonical image.
     pub fn fv_volume_is_canonical(
         volume: *const c_void,
         size: usize,
@@ -419,9 +338,7 @@ extern "C" {
         fault: *mut fv_fault,
     ) -> fv_result;
 
-    /// Writes the canonical image of the volume to the first `size` bytes of the buffer. The image
-    /// is as long as the volume. Returns `FV_OK`. Otherwise returns the first fault, 1 to 24, or,
-    /// without a fault, `FV_BUFFER_TOO_SMALL` if buffer_size < size.
+    /// Writes the canonical image of the volume to the first `size` bytes of the buffer.
     pub fn fv_volume_normalise(
         volume: *const c_void,
         size: usize,
@@ -431,17 +348,7 @@ extern "C" {
     ) -> fv_result;
 
     /// Writes the volume with none of its files marked as fixed to the first `size` bytes of the
-    /// buffer. In the header of each fixed file, bit 0x04 of the attributes is cleared, and 4 is
-    /// added to the header checksum (modulo 256), so all checksums stay right. Files that are
-    /// marked for update are among these files. All other bytes are the same as in the input, also
-    /// in pads, in deleted files and in nested volumes. A volume without fixed files is written as
-    /// it is. The calls that read the files of a volume reject a volume with fixed files (15), so
-    /// pass them the output of this call. The output is for reading, comparing and archiving, and
-    /// must not be flashed. Takes no memory. To learn which files were fixed, ask `fv_volume_cells`
-    /// for the cells of the result: a file was fixed if bit 0x04 of byte 19 of its header is set in
-    /// the input. Returns `FV_OK`. Otherwise returns the first fault of the header or of the cells,
-    /// or 8 if bytes follow the volume: 1 to 16, but never 15. Without a fault, returns
-    /// `FV_BUFFER_TOO_SMALL` if buffer_size < size.
+    /// buffer.
     pub fn fv_volume_unfix(
         volume: *const c_void,
         size: usize,
@@ -450,8 +357,7 @@ extern "C" {
         fault: *mut fv_fault,
     ) -> fv_result;
 
-    /// Computes the SHA-256 digest of the canonical image of the volume. Returns `FV_OK`. Otherwise
-    /// returns the first fault, 1 to 24, and leaves `*digest` unchanged.
+    /// Computes the SHA-256 digest of the canonical image of the volume.
     pub fn fv_volume_digest(
         volume: *const c_void,
         size: usize,
@@ -459,13 +365,7 @@ extern "C" {
         fault: *mut fv_fault,
     ) -> fv_result;
 
-    /// Compares the meanings of two volumes. Sets `*found`, and writes a text, ended by a NUL, to
-    /// the start of `text`: `same`, or `different at` with the steps down to the first difference
-    /// and its kind. Returns `FV_OK`, or `FV_BUFFER_TOO_SMALL` if text_size <=
-    /// `found->text_length`; `FV_DIFFERENCE_SIZE` bytes are always enough. Otherwise returns a
-    /// fault, 1 to 21, or 24: the first fault of the first input or, if that input has no fault,
-    /// the first fault of the second input. Then `*found` is unchanged. `fault->input` is 1 for a
-    /// fault of the second input. It is 0 if memory runs out while the two volumes are compared.
+    /// Compares the meanings of two volumes.
     pub fn fv_volume_compare(
         first: *const c_void,
         first_size: usize,
@@ -478,10 +378,7 @@ extern "C" {
     ) -> fv_result;
 
     /// Writes a row for each cell of the body of the volume with which the bytes begin, in order,
-    /// and their number to `*count`. Bytes after the volume are not read. Does not check duplicate
-    /// names, the volume top file or sections. Returns `FV_OK`, or `FV_BUFFER_TOO_SMALL` if
-    /// `*count` > room. Otherwise returns the first fault of the header or of the cells, 1 to 16,
-    /// or 24, and leaves `*count` unchanged.
+    /// and their number to `*count`.
     pub fn fv_volume_cells(
         volume: *const c_void,
         size: usize,
@@ -492,14 +389,7 @@ extern "C" {
     ) -> fv_result;
 
     /// Writes the whole tree of the volume: a row for the volume, its files, their sections and, in
-    /// the same way, each volume that a section holds. Each row is followed by the rows of the
-    /// parts that it holds. Row 0 is the volume itself. Pads are not listed, nor is a file that is
-    /// marked for update if its update is in the volume. Sets `*count` to the number of rows. The
-    /// bytes at an offset are as stored in the input, also in a nested volume, whereas
-    /// `fv_volume_extract` writes its canonical image. Data are read once. To find the places of
-    /// the parts, headers are read again, except the headers of the volume's own files. Returns
-    /// `FV_OK`, or `FV_BUFFER_TOO_SMALL` if `*count` > room. Otherwise returns the first fault, 1
-    /// to 21, or 24, and leaves `*count` unchanged.
+    /// the same way, each volume that a section holds.
     pub fn fv_volume_tree(
         volume: *const c_void,
         size: usize,
@@ -510,12 +400,7 @@ extern "C" {
     ) -> fv_result;
 
     /// Writes the SHA-256 digests of the parts of the volume, one for each row of `fv_volume_tree`,
-    /// in the same order. Each digest covers the bytes that `fv_volume_extract` writes for its row;
-    /// so a volume's digest covers its canonical image, as for `fv_volume_digest`. A section whose
-    /// content is `FV_CONTENT_SECTIONS` or `FV_CONTENT_VOLUME`, and no other row, has 32 zero bytes
-    /// instead of a digest. Sets `*count` to the number of digests. The input is read once, and no
-    /// image is kept in memory. Returns `FV_OK`, or `FV_BUFFER_TOO_SMALL` if `*count` > room.
-    /// Otherwise returns the first fault, 1 to 24, and leaves `*count` unchanged.
+    /// in the same order.
     pub fn fv_volume_tree_digests(
         volume: *const c_void,
         size: usize,
@@ -526,18 +411,7 @@ extern "C" {
     ) -> fv_result;
 
     /// Writes the part of the volume that is row number `row` of `fv_volume_tree` to the start of
-    /// the buffer, and the number of its bytes to `*length`. They are the bytes that the canonical
-    /// image of the volume has: for a volume its own canonical image, for a file its data, for a
-    /// section its body. In these bytes, a volume in a file or a section is replaced by its own
-    /// canonical image, and the bytes between sections are 0. Row 0 is the canonical image of the
-    /// whole volume. Plain data, and the body of a section that holds bytes, are as they are in the
-    /// input. Returns `FV_OK`, or `FV_BUFFER_TOO_SMALL` if buffer_size < `*length`. Returns
-    /// `FV_NOT_FOUND` if the tree has no row with this number. Otherwise returns the first fault, 1
-    /// to 21; or 22 or 23, if the part is a volume, or holds one, that does not fit in its
-    /// canonical form; or 24. For 22 and 23, `fault->depth` counts only the groups and opened
-    /// volumes within the part: it is 0 for the volume that is the part itself, and for the volume
-    /// that is the whole body of the section. Leaves `*length` unchanged after a fault and after
-    /// `FV_NOT_FOUND`.
+    /// the buffer, and the number of its bytes to `*length`.
     pub fn fv_volume_extract(
         volume: *const c_void,
         size: usize,
@@ -549,10 +423,7 @@ extern "C" {
     ) -> fv_result;
 
     /// Evaluates the dependency expression with which the bytes begin, as if exactly the GUIDs of
-    /// `installed` were installed, and sets `*value` to `FV_DEPEX_*`. `phase` is `FV_PHASE_*`. The
-    /// value does not depend on bytes after the END op. Returns `FV_OK`. Otherwise returns the
-    /// first fault, 0x201 to 0x205 or 24, and leaves `*value` unchanged. Memory can run out only if
-    /// the bytes begin with an op that may be the first.
+    /// `installed` were installed, and sets `*value` to `FV_DEPEX_*`.
     pub fn fv_depex_evaluate(
         expression: *const c_void,
         size: usize,
@@ -564,10 +435,7 @@ extern "C" {
     ) -> fv_result;
 
     /// Writes a row for each block of the hand-off list with which the bytes begin, in order, their
-    /// number to `*count`, and the number of bytes of the list to `*list_length`. Bytes after the
-    /// list are not read. Returns `FV_OK`, or `FV_BUFFER_TOO_SMALL` if `*count` > room. Otherwise
-    /// returns the first fault, 0x301 to 0x305 or 24, and leaves `*count` and `*list_length`
-    /// unchanged. Memory can run out only if the bytes begin with a hand-off information table.
+    /// number to `*count`, and the number of bytes of the list to `*list_length`.
     pub fn fv_hobs_read(
         list: *const c_void,
         size: usize,
@@ -579,14 +447,10 @@ extern "C" {
     ) -> fv_result;
 
     /// Writes a GUID as text to the start of `text`: 36 characters in lower case, as in
-    /// 8c8ce578-8a3d-4f1c-9935-896185c32dd3, and a NUL. Returns `FV_OK`, or `FV_BUFFER_TOO_SMALL`
-    /// if text_size < `FV_GUID_TEXT_SIZE`.
+    /// 8c8ce578-8a3d-4f1c-9935-896185c32dd3, and a NUL.
     pub fn fv_guid_text(guid: *const fv_guid, text: *mut c_char, text_size: usize) -> fv_result;
 
     /// Reads a GUID from a text such as 8c8ce578-8a3d-4f1c-9935-896185c32dd3, with digits of either
-    /// case. The text ends before its first NUL, or after text_size bytes, so text_size may be its
-    /// length or the size of its buffer. No byte after a NUL is read. Returns `FV_OK`. Returns
-    /// `FV_BAD_GUID` if the text has another form, also with braces or spaces, and leaves `*guid`
-    /// unchanged.
+    /// case.
     pub fn fv_guid_parse(text: *const c_char, text_size: usize, guid: *mut fv_guid) -> fv_result;
 }

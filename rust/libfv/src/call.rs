@@ -9,16 +9,7 @@ use std::ffi::c_void;
 use std::mem::MaybeUninit;
 
 /// The number of rows that the first buffer has room for. If there are more, the call is repeated.
-const ROOM: usize = 1024;
-
-/// The value that remains in the place of the fault if a call does not write it.
-pub(crate) const NO_FAULT: sys::fv_fault = sys::fv_fault {
-    offset: 0,
-    result: 0,
-    depth: 0,
-    input: 0,
-    reserved: 0,
-};
+pub(crate) const ROOM: usize = 1024;
 
 /// Returns the address of the first byte of an input.
 pub(crate) fn address(input: &[u8]) -> *const c_void {
@@ -37,7 +28,7 @@ pub(crate) unsafe fn filled<T>(
     first: usize,
     mut call: impl FnMut(*mut T, usize, &mut usize, &mut sys::fv_fault) -> sys::fv_result,
 ) -> Result<Vec<T>, Error> {
-    let (mut room, mut count, mut fault) = (first, 0, NO_FAULT);
+    let (mut room, mut count, mut fault) = (first, 0, sys::fv_fault::default());
     loop {
         let mut buffer = Vec::new();
         if buffer.try_reserve_exact(room).is_err() {
@@ -91,7 +82,7 @@ type ValueCall<T> =
 
 /// Returns the value that a call writes about an input.
 pub(crate) fn value<T>(call: ValueCall<T>, input: &[u8]) -> Result<T, Error> {
-    let (mut found, mut fault) = (MaybeUninit::uninit(), NO_FAULT);
+    let (mut found, mut fault) = (MaybeUninit::uninit(), sys::fv_fault::default());
     // SAFETY: the input is a slice, and the results are variables of this function.
     let result = unsafe { call(address(input), input.len(), found.as_mut_ptr(), &mut fault) };
     check(result, fault)?;

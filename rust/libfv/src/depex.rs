@@ -1,7 +1,7 @@
 // SPDX-License-Identifier: BSD-2-Clause-Patent
 //! Dependency expressions: [`evaluate`].
 
-use crate::call::{address, NO_FAULT};
+use crate::call::address;
 use crate::error::check;
 use crate::row::unknown;
 use crate::{Error, Guid};
@@ -51,7 +51,7 @@ pub fn evaluate(expression: &[u8], phase: Phase, installed: &[Guid]) -> Result<T
         Phase::Pei => sys::FV_PHASE_PEI,
         Phase::Dxe => sys::FV_PHASE_DXE,
     };
-    let (mut value, mut fault) = (sys::FV_DEPEX_FALSE, NO_FAULT);
+    let (mut value, mut fault) = (sys::FV_DEPEX_FALSE, sys::fv_fault::default());
     // SAFETY: the expression and the GUIDs are slices, a Guid has the layout of fv_guid, and the
     // results are variables of this function.
     let result = unsafe {

@@ -1,7 +1,7 @@
 // SPDX-License-Identifier: BSD-2-Clause-Patent
 //! Hand-off lists: [`read`].
 
-use crate::call::{address, filled};
+use crate::call::{address, filled, ROOM};
 use crate::row::{narrow, row};
 use crate::Error;
 use libfv_sys as sys;
@@ -9,12 +9,9 @@ use libfv_sys as sys;
 /// EFI_HOB_TYPE_FV and EFI_HOB_TYPE_FV2.
 const TYPES_WITH_VOLUME: [u32; 2] = [5, 9];
 
-/// The number of blocks that the first buffer has room for.
-const ROOM: usize = 1024;
-
 row! {
     /// A block of a hand-off list.
-    Hob(fv_hob) { hob_type, hob_length, volume_base, volume_length }
+    Hob(fv_hob) { volume_base, volume_length, hob_type, hob_length }
 }
 
 impl Hob {

@@ -8,7 +8,7 @@
 //! Only [`cells`] accepts bytes after the volume. All other functions reject them with
 //! [`FaultKind::Length`](crate::FaultKind::Length).
 
-use crate::call::{self, address, filled, NO_FAULT};
+use crate::call::{self, address, filled};
 use crate::error::check;
 use crate::row::{guid_or_none, narrow, range, row, unknown};
 use crate::{Error, Guid};
@@ -383,14 +383,7 @@ pub fn digest(volume: &[u8]) -> Result<Digest, Error> {
 /// memory runs out.
 pub fn compare(first: &[u8], second: &[u8]) -> Result<Option<String>, Error> {
     let mut text = [0; sys::FV_DIFFERENCE_SIZE as usize];
-    let (mut fault, mut found) = (
-        NO_FAULT,
-        sys::fv_comparison {
-            text_length: 0,
-            same: 0,
-            reserved: 0,
-        },
-    );
+    let (mut fault, mut found) = (sys::fv_fault::default(), sys::fv_comparison::default());
     // SAFETY: the inputs are slices, and the results are variables of this function.
     let result = unsafe {
         sys::fv_volume_compare(
@@ -566,33 +559,6 @@ mod tests {
     }
 
     #[test]
-    fn fields_that_a_row_does_not_have_are_none() {
-        let (pad, free) = (cell(sys::FV_CELL_PAD), cell(sys::FV_CELL_FREE));
-        assert_eq!((pad.efi_type(), pad.header_length()), (Some(7), Some(24)));
-        assert_eq!(
-            (pad.name(), pad.attributes()),
-            (Some(Guid::default()), Some(0))
-        );
-        assert_eq!((free.efi_type(), free.header_length()), (None, None));
-        assert_eq!((free.name(), free.attributes()), (None, None));
-        let [volume, file, section] = [1, 2, 3].map(|kind| node(kind, sys::FV_CONTENT_BYTES));
-        assert_eq!((volume.guid(), volume.efi_type()), (None, None));
-        assert_eq!(
-            (volume.attributes(), volume.file_system()),
-            (Some(0), Some(3))
-        );
-        assert_eq!(
-            (file.guid(), file.efi_type()),
-            (Some(Guid::default()), Some(0))
-        );
-        assert_eq!((file.attributes(), file.file_system()), (Some(0), None));
-        assert_eq!((section.guid(), section.efi_type()), (None, Some(0)));
-        assert_eq!((section.attributes(), section.file_system()), (None, None));
-        assert_eq!(volume.parent(), None);
-        assert_eq!(NodeDigest(sys::fv_sha256::default()).digest(), None);
-    }
-
-    #[test]
     fn rows_are_equal_if_their_getters_are() {
         let (first, mut second) = (cell(1), cell(1));
         second.0.reserved = 1;
@@ -627,5 +593,8 @@ mod tests {
         is_sent::<crate::image::VolumeCheck>();
         is_sent::<crate::hobs::HobList>();
         is_sent::<Guid>();
+        fn is_error<T: std::error::Error + Send + Sync + 'static>() {}
+        is_error::<Error>();
+        is_error::<crate::Fault>();
     }
 }

@@ -1,8 +1,7 @@
 /* SPDX-License-Identifier: BSD-2-Clause-Patent */
 /* Checks fv_volume_cells: the cells follow one another up to the end of the volume, and each cell agrees with its
  * bytes. */
-#include "coverage.h"
-#include "results.h"
+#include "format.h"
 #include "rows.h"
 #include "volume.h"
 
@@ -28,22 +27,23 @@ static void check_bytes_of(const struct volume *v, const fv_cell *cell)
 {
     const uint8_t *bytes = v->bytes + cell->offset;
     if (cell->kind == FV_CELL_FREE) {
-        for (uint64_t i = 0; i < cell->length; i++)
-            CHECK(bytes[i] == v->header.erased_byte, "cells: free bytes at %lu are not erased", cell->offset);
+        const fv_cell expected = {.offset = cell->offset, .length = cell->length, .kind = FV_CELL_FREE};
+        CHECK(!memcmp(cell, &expected, sizeof expected), "cells: fields of the free bytes at %lu", cell->offset);
+        CHECK(is_all(bytes, cell->length, (uint8_t)v->header.erased_byte), "cells: bytes at %lu", cell->offset);
         return;
     }
-    CHECK(cell->length >= 24, "cells: a cell of %lu bytes", cell->length);
-    uint8_t state = bytes[23] ^ (uint8_t)v->header.erased_byte;
-    CHECK(fits_state(cell->kind, state, bytes[18]), "cells: state %02x is reported as %u", state, cell->kind);
-    if (!has_header(cell)) {
-        static const uint8_t no_name[16];
-        CHECK(!cell->header_length && !cell->efi_type && !cell->attributes && !memcmp(cell->name.bytes, no_name, 16),
-              "cells: the cell at %lu has a field that it should not have", cell->offset);
-        return;
+    CHECK(cell->length >= HEAD, "cells: a cell of %lu bytes", cell->length);
+    uint8_t state = bytes[STATE] ^ (uint8_t)v->header.erased_byte;
+    CHECK(fits_state(cell->kind, state, bytes[KIND]), "cells: state %02x is reported as %u", state, cell->kind);
+    fv_cell expected = {.offset = cell->offset, .length = cell->length, .kind = cell->kind};
+    if (has_header(cell)) {
+        expected.header_length = bytes[ATTRIBUTES] & LARGE ? LARGE_HEAD : HEAD;
+        expected.length = file_size(bytes);
+        expected.efi_type = bytes[KIND];
+        expected.attributes = bytes[ATTRIBUTES];
+        memcpy(expected.name.bytes, bytes, sizeof expected.name);
     }
-    CHECK(cell->header_length == (bytes[19] & 1 ? 32 : 24), "cells: a header of %u", cell->header_length);
-    CHECK(cell->efi_type == bytes[18] && cell->attributes == bytes[19] && !memcmp(cell->name.bytes, bytes, 16),
-          "cells: the head of the cell at %lu", cell->offset);
+    CHECK(!memcmp(cell, &expected, sizeof expected), "cells: the cell at %lu is not that of its bytes", cell->offset);
 }
 
 static void check_cells(const struct volume *v)
@@ -51,8 +51,7 @@ static void check_cells(const struct volume *v)
     uint64_t at = v->header.first_file;
     for (uint64_t i = 0; i < v->cell_count; i++) {
         const fv_cell *cell = v->cells + i;
-        CHECK(cell->offset == at && cell->length && cell->kind >= FV_CELL_FILE && cell->kind <= FV_CELL_FREE &&
-                  !cell->reserved && cell->header_length <= cell->length && cell->length <= v->header.length - at,
+        CHECK(cell->offset == at && cell->length && cell->length <= v->header.length - at,
               "cells: number %lu at %lu, %lu bytes", i, cell->offset, cell->length);
         check_bytes_of(v, cell);
         at += cell->length;
@@ -67,23 +66,15 @@ ROWS_CALL(call, fv_volume_cells)
 void try_cells(struct volume *v)
 {
     static fv_cell cells[MOST_ROWS];
-    const struct rows rows = {"cells", call, sizeof *cells, 8, v->bytes, v->len};
+    const struct rows rows = {"cells", call, sizeof *cells, 8, MOST_ROWS, v->bytes, v->len, v->parameters, 2};
     size_t count;
     fv_fault fault;
-    fv_result result = count_rows(&rows, &count, &fault);
-    bool is_read = !result && count < MOST_ROWS;
-    if (result) {
-        check_result("cells", result, &fault, FV_FAULT_FREE_SPACE, v->len);
-        CHECK(result == v->result && is_same_fault(&fault, &v->fault), "cells: %u, normalise: %u", result, v->result);
-    } else {
-        v->cell_count = count;
-    }
-    if (is_read) {
-        read_rows(&rows, count, v->parameters[FILE_CHOICE] & 1, cells);
-        v->cells = cells;
-        check_cells(v);
-        saw(SEEN_CELLS, count > 20 ? 20 : (uint32_t)count, 0, 0);
-    }
-    fv_fault *wanted = FAULT_OR_NULL(v->parameters, &fault);
-    refuse_rows(&rows, count, is_read && v->parameters[REFUSED + 1] & 1, result, v->parameters[REFUSED + 2], wanted);
+    fv_result result = try_rows(&rows, cells, &count, &fault);
+    check_agrees("cells", v, result, &fault, result ? v->result : FV_OK, FV_FAULT_FREE_SPACE);
+    if (result) return;
+    v->cell_count = count;
+    if (count > MOST_ROWS) return;
+    v->cells = cells;
+    check_cells(v);
+    saw(SEEN_CELLS, count > 20 ? 20 : (uint32_t)count, 0, 0);
 }

@@ -34,31 +34,6 @@ uint8_t one_of(const uint8_t *choices, size_t count)
     return choices[below((uint32_t)count)];
 }
 
-uint64_t number_at(const uint8_t *bytes, int width)
-{
-    uint64_t number = 0;
-    while (width--) number = number << 8 | bytes[width];
-    return number;
-}
-
-void put_number(uint8_t *bytes, int width, uint64_t number)
-{
-    for (int i = 0; i < width; i++) bytes[i] = (uint8_t)(number >> 8 * i);
-}
-
-uint8_t erased_byte(const uint8_t *volume)
-{
-    return volume[POLARITY] & 8 ? 0xFF : 0;
-}
-
-size_t first_cell(const uint8_t *volume, size_t len)
-{
-    size_t header = number_at(volume + HEADER_LENGTH, 2), ext = number_at(volume + EXT_HEADER, 2);
-    if (!ext || ext + 20 > len) return header;
-    uint64_t size = number_at(volume + ext + 16, 4);
-    return size <= len - ext ? (ext + size + 7) & ~(size_t)7 : header;
-}
-
 size_t open_gap(uint8_t *bytes, size_t len, size_t most, size_t at, size_t count)
 {
     if (len + count > most || at > len) return len;

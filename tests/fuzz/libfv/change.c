@@ -46,6 +46,22 @@ struct place any_volume(const uint8_t *image, size_t len, bool is_nested)
     return count ? found[below(count)] : (struct place){0, 0};
 }
 
+static void put_section(uint8_t *section, uint8_t kind, size_t size)
+{
+    put_number(section, 3, size);
+    section[SECTION_KIND] = kind;
+}
+
+/* Writes the header of a file, without its name and checksums. */
+static void put_head(uint8_t *head, uint8_t kind, uint8_t attributes, size_t size, uint8_t state)
+{
+    put_number(head + HEAD_SUM, 2, 0);
+    head[KIND] = kind;
+    head[ATTRIBUTES] = attributes;
+    put_number(head + SIZE, 3, size);
+    head[STATE] = state;
+}
+
 static uint8_t section_kind(void)
 {
     return ONE_OF(0x10, 0x11, DXE_EXPRESSION, DXE_EXPRESSION, 0x14, 0x15, 0x18, 0x19, PEI_EXPRESSION, 0x1C, 2, 1, GROUP,
@@ -59,8 +75,8 @@ static void make_sections(uint8_t *file, size_t size)
     while (at < size && size - at >= 4) {
         size_t section = 4 + below(24);
         if (section > size - at || size - at - section < 4) section = size - at;
-        put_number(file + at, 3, section);
-        uint8_t kind = file[at + SECTION_KIND] = section_kind();
+        uint8_t kind = section_kind();
+        put_section(file + at, kind, section);
         if ((kind == DXE_EXPRESSION || kind == PEI_EXPRESSION) && section > 6) {
             file[at + 4] = 6; /* TRUE, END */
             file[at + 5] = 8;
@@ -74,14 +90,12 @@ static size_t make_file(uint8_t *file, uint8_t erased)
     size_t body = one_in(5) ? below(700) : below(60);
     if (one_in(200)) body = 3000 + below(3000);
     size_t size = HEAD + body;
-    memset(file, 0, HEAD);
     for (int i = 0; i < 16; i++) file[i] = (uint8_t)(below(3) ? 0x10 + below(4) : chance());
-    file[KIND] = below(8) ? ONE_OF(1, 2, 2, 2, 3, 4, 5, 6, 7, 8, 9, 0x0B, 0x0B, 0xF0, 0xC0, 0x0D) : (uint8_t)chance();
-    file[ATTRIBUTES] = ONE_OF(0, 0, SUMMED, SUMMED, 0x08, 0x10, 0x28, 0x38, 0x02, 0x3A, 0x48, 0x80);
-    put_number(file + SIZE, 3, size);
-    file[STATE] = ONE_OF(7, 7, 7, 7, 7, 7, 7, 7, 15, 15, 0x17, 3) ^ erased;
+    uint8_t kind = below(8) ? ONE_OF(1, 2, 2, 2, 3, 4, 5, 6, 7, 8, 9, 0x0B, 0x0B, 0xF0, 0xC0, 0x0D) : (uint8_t)chance();
+    uint8_t attributes = ONE_OF(0, 0, SUMMED, SUMMED, 0x08, 0x10, 0x28, 0x38, 0x02, 0x3A, 0x48, 0x80);
+    put_head(file, kind, attributes, size, ONE_OF(7, 7, 7, 7, 7, 7, 7, 7, 15, 15, 0x17, 3) ^ erased);
     for (size_t i = HEAD; i < size; i++) file[i] = below(4) ? 0x5A : (uint8_t)chance();
-    if (file[KIND] != 1 && file[KIND] < 0x10) make_sections(file, size);
+    if (kind != 1 && kind < 0x10) make_sections(file, size);
     return size;
 }
 
@@ -106,12 +120,9 @@ static size_t add_small_files(uint8_t *volume, size_t len, size_t most)
     uint8_t first_name = (uint8_t)chance(), last_bytes = (uint8_t)(1 + below(15));
     for (uint32_t i = 0; i < count; i++) {
         uint8_t *head = volume + at + (size_t)i * HEAD;
-        memset(head, 0, HEAD);
         memset(head, first_name, 16);
         for (int k = last_bytes; k < 16; k++) head[k] = (uint8_t)chance();
-        head[KIND] = 1;
-        put_number(head + SIZE, 3, HEAD);
-        head[STATE] = 7 ^ erased_byte(volume);
+        put_head(head, 1, 0, HEAD, 7 ^ erased_byte(volume));
     }
     return new_len;
 }
@@ -161,10 +172,8 @@ static void turn_polarity(uint8_t *volume, size_t len)
 
 static void change_file_system(uint8_t *volume)
 {
-    static const uint8_t ffs3[16] = {0x7a, 0xc0, 0x73, 0x54, 0xcb, 0x3d, 0xca, 0x4d,
-                                     0xbd, 0x6f, 0x1e, 0x96, 0x89, 0xe7, 0x34, 0x9a};
     if (below(2))
-        memcpy(volume + FILE_SYSTEM, ffs3, sizeof ffs3);
+        memcpy(volume + FILE_SYSTEM, file_systems[1], sizeof file_systems[1]);
     else
         volume[FILE_SYSTEM] ^= 2;
 }
@@ -182,22 +191,11 @@ static size_t nest(uint8_t *volume, size_t len, size_t most)
     put_number(volume + HEADER_LENGTH, 2, LEAST_VOLUME);
     put_number(volume + EXT_HEADER, 2, 0);
     for (int i = 0; i < 16; i++) head[i] = (uint8_t)(0x30 + below(5));
-    head[KIND] = 0x0B;
-    head[ATTRIBUTES] = ONE_OF(SUMMED, 0x08, 0);
-    put_number(head + SIZE, 3, before - LEAST_VOLUME + len);
-    head[STATE] = 7 ^ erased;
-    if (lead) {
-        put_number(section, 3, lead);
-        section[SECTION_KIND] = 0x19;
-        section += lead;
-    }
-    if (group) {
-        put_number(section, 3, 8 + len);
-        section[SECTION_KIND] = GROUP;
-        section += group;
-    }
-    put_number(section, 3, 4 + len);
-    section[SECTION_KIND] = VOLUME;
+    put_head(head, 0x0B, ONE_OF(SUMMED, 0x08, 0), before - LEAST_VOLUME + len, 7 ^ erased);
+    if (lead) put_section(section, 0x19, lead);
+    section += lead;
+    if (group) put_section(section, GROUP, 8 + len);
+    put_section(section + group, VOLUME, 4 + len);
     size_t end = (before + len + 7) & ~(size_t)7, room = 8 * below(12);
     if (end + room > most) room = 0;
     memset(volume + before + len, erased, end + room - before - len);
@@ -221,9 +219,7 @@ static size_t change_ext_header(uint8_t *volume, size_t len, size_t most)
     if (new_len == len) return len;
     memset(pad, 0, size);
     memset(pad, 0xFF, 16);
-    pad[KIND] = 0xF0;
-    put_number(pad + SIZE, 3, size);
-    pad[STATE] = 7 ^ erased_byte(volume);
+    put_head(pad, 0xF0, 0, size, 7 ^ erased_byte(volume));
     put_number(volume + EXT_HEADER, 2, LEAST_VOLUME + HEAD);
     for (int i = 0; i < 16; i++) header[i] = (uint8_t)chance();
     put_number(header + 16, 4, below(3) ? 20 : size - HEAD);

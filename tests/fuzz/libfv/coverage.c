@@ -3,11 +3,9 @@
  * head of each of its basic blocks. When a trap is reached, the handler puts the old byte back and counts the block for
  * libFuzzer. Each block costs one signal in the life of the process, and nothing after that. */
 #define _GNU_SOURCE
-#include "coverage.h"
-#include <fv.h>
+#include "harness.h"
+#include <limits.h>
 #include <signal.h>
-#include <stdio.h>
-#include <stdlib.h>
 #include <sys/mman.h>
 #include <ucontext.h>
 #include <unistd.h>
@@ -26,15 +24,7 @@ static uint32_t *block_at;  /* for each of them: the number of the block that be
 static uint8_t *byte_at;    /* the byte that was there */
 static uint32_t hit, watched;
 
-uint32_t blocks_hit(void)
-{
-    return hit;
-}
-
-uint32_t blocks_watched(void)
-{
-    return watched;
-}
+int LLVMFuzzerInitialize(int *argc, char ***argv);
 
 static void on_trap(int number, siginfo_t *info, void *context)
 {
@@ -84,7 +74,9 @@ static void open_code(const int32_t *offsets, size_t count)
     if (mprotect((void *)start, end - start, PROT_READ | PROT_WRITE | PROT_EXEC)) give_up("mprotect");
 }
 
-void watch_blocks(const char *path)
+/* Puts a trap at the head of each basic block that the file lists (blocks.py writes it). Ends the process if it cannot.
+ */
+static void watch_blocks(const char *path)
 {
     static int32_t offsets[MOST_BLOCKS - 1];
     FILE *file = fopen(path, "rb");
@@ -103,6 +95,27 @@ void watch_blocks(const char *path)
         first_byte[offset] = TRAP;
         watched++;
     }
+}
+
+static void report(void)
+{
+    fprintf(stderr, "%lu runs, %u blocks of %u\n", runs, hit, watched);
+}
+
+/* The list of blocks is beside the program. Its name is the program's name with `.blocks` after it. */
+int LLVMFuzzerInitialize(int *argc, char ***argv)
+{
+    (void)argc;
+    (void)argv;
+    char path[PATH_MAX + 8];
+    ssize_t len = readlink("/proc/self/exe", path, PATH_MAX);
+    if (len < 0) abort();
+    memcpy(path + len, ".blocks", 8);
+    open_rooms();
+    open_heap();
+    watch_blocks(path);
+    atexit(report);
+    return 0;
 }
 
 void saw(uint32_t what, uint32_t a, uint32_t b, uint64_t c)

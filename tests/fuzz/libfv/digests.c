@@ -1,8 +1,6 @@
 /* SPDX-License-Identifier: BSD-2-Clause-Patent */
 /* Checks fv_volume_tree_digests: the digest of a row is the SHA-256 of its bytes in the image, whose tree has the same
  * rows. */
-#include "digest.h"
-#include "results.h"
 #include "rows.h"
 #include "volume.h"
 
@@ -31,23 +29,13 @@ ROWS_CALL(call, fv_volume_tree_digests)
 void try_digests(const struct volume *v)
 {
     static fv_sha256 digests[MOST_DIGESTS];
-    const struct rows rows = {"tree_digests", call, sizeof *digests, 1, v->bytes, v->len};
+    const struct rows rows = {"tree_digests", call,   sizeof *digests, 1, MOST_DIGESTS,
+                              v->bytes,       v->len, v->parameters,   0};
     size_t count;
     fv_fault fault;
-    fv_result result = count_rows(&rows, &count, &fault);
-    if (result) {
-        check_result("tree_digests", result, &fault, FV_FAULT_TOP_ALIGNMENT, v->len);
-        CHECK(result == v->result && is_same_fault(&fault, &v->fault), "tree_digests: %u, normalise: %u", result,
-              v->result);
-    } else {
-        CHECK(v->image && count == v->node_count, "tree_digests: %lu of %lu rows, normalise: %u", count, v->node_count,
-              v->result);
-    }
-    if (!result && v->image_nodes) {
-        read_rows(&rows, count, v->parameters[FILE_CHOICE] & 1, digests);
-        check_digests(v, digests);
-    }
-    bool has_room = !result && count < MOST_DIGESTS && v->parameters[REFUSED] & 1;
-    fv_fault *wanted = FAULT_OR_NULL(v->parameters, &fault);
-    refuse_rows(&rows, count, has_room, result, v->parameters[REFUSED] ^ v->parameters[REFUSED + 2], wanted);
+    fv_result result = try_rows(&rows, digests, &count, &fault);
+    check_agrees("tree_digests", v, result, &fault, v->result, FV_FAULT_TOP_ALIGNMENT);
+    if (result) return;
+    CHECK(count == v->node_count, "tree_digests: %lu of %lu rows", count, v->node_count);
+    if (v->image_nodes) check_digests(v, digests);
 }

@@ -1,10 +1,7 @@
 /* SPDX-License-Identifier: BSD-2-Clause-Patent */
 /* Checks fv_depex_evaluate: it returns the same result as an evaluator of the harness (PI specification 1.8, volume 2,
  * section 10.7, and volume 1, section 5.7; docs/FAULTS.md defines the order of the faults). */
-#include "coverage.h"
 #include "harness.h"
-#include "heap.h"
-#include "results.h"
 
 enum { BEFORE, AFTER, PUSH, AND, OR, NOT, TRUE, FALSE, END, SOR };
 #define MOST_STACK 65536u
@@ -113,19 +110,6 @@ static void try_phase(struct evaluation *e, uint32_t phase, const uint8_t *param
     CHECK(value == (again ? UNTOUCHED : expected), "depex has written a value without memory");
 }
 
-/* Checks arguments that are not allowed: a phase that does not exist, and missing GUIDs. */
-static void try_bad_arguments(const struct evaluation *e, uint8_t phase)
-{
-    uint32_t value = UNTOUCHED;
-    fv_fault fault = unset_fault;
-    uint32_t none = FV_PHASE_DXE + 1 + phase * 16777259u;
-    fv_result result = fv_depex_evaluate(e->bytes, e->len, none, e->installed, e->installed_count, &value, &fault);
-    check_bad_argument("depex", result, &fault);
-    result = fv_depex_evaluate(e->bytes, e->len, FV_PHASE_DXE, NULL, 1 + phase, &value, &fault);
-    check_bad_argument("depex", result, &fault);
-    CHECK(value == UNTOUCHED, "depex has written a value after a bad argument");
-}
-
 void try_expression(const uint8_t *bytes, size_t len, const uint8_t *parameters)
 {
     static struct evaluation evaluation;
@@ -144,5 +128,4 @@ void try_expression(const uint8_t *bytes, size_t len, const uint8_t *parameters)
     evaluation.installed_count = count;
     try_phase(&evaluation, FV_PHASE_PEI, parameters);
     try_phase(&evaluation, FV_PHASE_DXE, parameters);
-    try_bad_arguments(&evaluation, parameters[PHASE]);
 }

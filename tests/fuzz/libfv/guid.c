@@ -15,13 +15,16 @@ static bool is_guid(const uint8_t *text, size_t len)
     return true;
 }
 
-/* Checks that the text of a GUID is a GUID in lower case, and is read back. */
+/* Checks that the text of a GUID has its bytes in their order, in lower case, and is read back. */
 static void check_text(const fv_guid *guid, char *text)
 {
     fv_guid again;
     CHECK(fv_guid_text(guid, text, FV_GUID_TEXT_SIZE) == FV_OK && !text[LENGTH], "guid: no text");
-    CHECK(is_guid((const uint8_t *)text, LENGTH), "guid: the text is %s", text);
-    for (size_t i = 0; i < LENGTH; i++) CHECK(!isupper((uint8_t)text[i]), "guid: the text is %s", text);
+    const uint8_t *b = guid->bytes;
+    char expected[FV_GUID_TEXT_SIZE];
+    snprintf(expected, sizeof expected, "%02x%02x%02x%02x-%02x%02x-%02x%02x-%02x%02x-%02x%02x%02x%02x%02x%02x", b[3],
+             b[2], b[1], b[0], b[5], b[4], b[7], b[6], b[8], b[9], b[10], b[11], b[12], b[13], b[14], b[15]);
+    CHECK(!memcmp(text, expected, sizeof expected), "guid: the text is %s, not %s", text, expected);
     CHECK(fv_guid_parse(text, FV_GUID_TEXT_SIZE, &again) == FV_OK && !memcmp(&again, guid, sizeof again),
           "guid: %s is read as another", text);
 }

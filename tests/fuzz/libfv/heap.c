@@ -3,7 +3,6 @@
  * the end of a room, and the page after it cannot be touched. The bytes around the block are checked when it is
  * returned, and its room is used again as late as possible. Blocks that do not fit into a room come from malloc. */
 #define _GNU_SOURCE
-#include "heap.h"
 #include "harness.h"
 #include <sys/mman.h>
 
@@ -33,7 +32,8 @@ static uint8_t nothing;
 static uint8_t *rooms;
 static size_t len_in[ROOMS];                      /* of the block in a room, or 0 */
 static uint32_t queue[ROOMS], queue_from, queued; /* the empty rooms, the longest empty room first */
-static long live, refuse_in = -1;
+static long live, refuse_in = -1, refuse_by;
+unsigned long allocations, refusals;
 
 void open_heap(void)
 {
@@ -48,7 +48,12 @@ void open_heap(void)
 
 void refuse_allocation(unsigned number)
 {
-    refuse_in = (long)number;
+    refuse_in = refuse_by + (long)number;
+}
+
+void refuse_later(int by)
+{
+    refuse_by = by;
 }
 
 bool end_refusal(void)
@@ -66,13 +71,9 @@ void check_no_block_is_kept(const char *call)
 /* Returns whether this allocation is refused. After a refusal `refuse_in` is -1, which end_refusal reads. */
 static bool is_refused(void)
 {
-    return refuse_in >= 0 && refuse_in-- == 0;
-}
-
-static bool is_all(const uint8_t *bytes, size_t len, uint8_t value)
-{
-    for (size_t i = 0; i < len; i++)
-        if (bytes[i] != value) return false;
+    allocations++;
+    if (refuse_in < 0 || refuse_in--) return false;
+    refusals++;
     return true;
 }
 

@@ -2,9 +2,7 @@
 /* Checks fv_image_scan, fv_image_normalise and fv_image_check: each volume is found, its row agrees with its header,
  * and nothing else is found. Each volume is replaced by its image. The result of a volume's check is the result of
  * fv_volume_is_canonical. */
-#include "coverage.h"
 #include "harness.h"
-#include "results.h"
 #include "rows.h"
 
 #define MOST_VOLUMES 8000u
@@ -55,20 +53,21 @@ static fv_result expected_image(const uint8_t *bytes, size_t len, size_t count, 
     return result;
 }
 
+COPY_CALL(normalise, fv_image_normalise)
+
 static void try_image_normalise(const uint8_t *bytes, size_t len, size_t count, const uint8_t *parameters)
 {
     static uint8_t expected[MOST_BUFFER], image[MOST_BUFFER];
-    struct copy copy = {.name = "image_normalise", .call = fv_image_normalise, .bytes = bytes, .len = len};
-    fv_fault usual = {0, 0, 0, 0, 0};
+    const struct rows rows = {"image_normalise", normalise, 1, 1, sizeof image, bytes, len, parameters, 0};
+    size_t written;
+    fv_fault fault, usual = {0, 0, 0, 0, 0};
     fv_result otherwise = expected_image(bytes, len, count, expected, &usual);
-    make_copy(&copy, image);
-    check_result("image_normalise", copy.result, &copy.fault, FV_FAULT_TOP_ALIGNMENT, len);
-    CHECK(copy.result == otherwise && is_same_fault(&copy.fault, &usual),
-          "image_normalise: fault %u at %lu, not %u at %lu", copy.result, copy.fault.offset, otherwise, usual.offset);
-    saw(SEEN_IMAGE, copy.result, copy.fault.depth, count > 4 ? 4 : count);
-    CHECK(copy.result || !memcmp(image, expected, len), "image_normalise: not the images of the volumes");
-    try_rooms(&copy, parameters);
-    refuse_copy(&copy, parameters);
+    fv_result result = try_rows(&rows, image, &written, &fault);
+    check_result("image_normalise", result, &fault, FV_FAULT_TOP_ALIGNMENT, len);
+    CHECK(result == otherwise && is_same_fault(&fault, &usual), "image_normalise: fault %u at %lu, not %u at %lu",
+          result, fault.offset, otherwise, usual.offset);
+    saw(SEEN_IMAGE, result, fault.depth, count > 4 ? 4 : count);
+    CHECK(result || !memcmp(image, expected, len), "image_normalise: not the images of the volumes");
 }
 
 /* Checks that the row of a volume in the image agrees with fv_volume_is_canonical of the volume. */
@@ -91,28 +90,25 @@ ROWS_CALL(check, fv_image_check)
 static void try_image_check(const uint8_t *bytes, size_t len, size_t n, const uint8_t *parameters)
 {
     static fv_volume_check checks[MOST_VOLUMES];
-    const struct rows rows = {"image_check", check, sizeof *checks, 8, bytes, len};
-    fv_fault fault = unset_fault;
-    read_rows(&rows, n, parameters[ROW_CHOICE] & 1, checks);
+    const struct rows rows = {"image_check", check, sizeof *checks, 8, MOST_VOLUMES, bytes, len, parameters, 2};
+    size_t count;
+    fv_fault fault;
+    fv_result result = try_rows(&rows, checks, &count, &fault);
+    CHECK(result == FV_OK && count == n, "image_check: %u, %lu volumes, image_scan: %lu", result, count, n);
     for (size_t i = 0; i < n; i++) check_row(bytes, i, checks + i);
-    fv_fault *wanted = FAULT_OR_NULL(parameters, &fault);
-    refuse_rows(&rows, n, parameters[REFUSED] & 1, FV_OK, parameters[REFUSED + 2], wanted);
 }
 
 ROWS_CALL(scan, fv_image_scan)
 
 void try_image(const uint8_t *bytes, size_t len, const uint8_t *parameters)
 {
-    const struct rows rows = {"image_scan", scan, sizeof *headers, 8, bytes, len};
+    const struct rows rows = {"image_scan", scan, sizeof *headers, 8, MOST_VOLUMES, bytes, len, parameters, 1};
     size_t count;
     fv_fault fault;
-    fv_result result = count_rows(&rows, &count, &fault);
+    fv_result result = try_rows(&rows, headers, &count, &fault);
     CHECK(result == FV_OK, "image_scan: %u", result);
     if (count > MOST_VOLUMES) return;
-    read_rows(&rows, count, parameters[ROW_CHOICE] & 1, headers);
     saw(SEEN_SCAN, count > 9 ? 9 : (uint32_t)count, 0, 0);
     try_image_normalise(bytes, len, count, parameters);
     try_image_check(bytes, len, count, parameters);
-    fv_fault *wanted = FAULT_OR_NULL(parameters, &fault);
-    refuse_rows(&rows, count, parameters[REFUSED + 2] & 1, FV_OK, parameters[REFUSED + 1], wanted);
 }

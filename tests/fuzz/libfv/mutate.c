@@ -2,7 +2,6 @@
 /* The mutator that libFuzzer calls. It changes a volume, an op or a block in an input, depending on the kind of the
  * input, and has checksums and lengths corrected. */
 #include "mutate.h"
-#include "harness.h"
 
 /* The largest number of bytes of the data of an input, and of a changed volume in a flash image. */
 #define MOST_DATA 40000u

@@ -1,34 +1,13 @@
 /* SPDX-License-Identifier: BSD-2-Clause-Patent */
-/* The parts that the files of the mutator share: random choices, numbers in bytes, and the parts of a volume. */
+/* The parts that the files of the mutator share: random choices, and changes of a volume. */
 #ifndef MUTATE_H
 #define MUTATE_H
 
-#include <stdbool.h>
-#include <stddef.h>
-#include <stdint.h>
-#include <string.h>
+#include "format.h"
+#include "harness.h"
 
 /* libFuzzer's own mutator. */
 size_t LLVMFuzzerMutate(uint8_t *data, size_t size, size_t most);
-
-/* The places of fields in a volume header, a file header and a section header. */
-enum {
-    FILE_SYSTEM = 16,
-    FV_LENGTH_FIELD = 32,
-    SIGNATURE = 40,
-    POLARITY = 45,
-    HEADER_LENGTH = 48,
-    HEADER_SUM = 50,
-    EXT_HEADER = 52,
-    REVISION = 55,
-    BLOCK_MAP = 56,
-    LEAST_VOLUME = 72
-};
-enum { HEAD_SUM = 16, FILE_SUM = 17, KIND = 18, ATTRIBUTES = 19, SIZE = 20, STATE = 23, LARGE_SIZE = 24, HEAD = 24 };
-enum { LARGE = 0x01, FIXED = 0x04, SUMMED = 0x40 };
-enum { GROUP = 0x03, VOLUME = 0x17, DXE_EXPRESSION = 0x13, PEI_EXPRESSION = 0x1B };
-#define SECTION_KIND 3
-#define LARGE_HEAD 32u
 
 void seed_chance(uint32_t seed);
 uint32_t chance(void);
@@ -36,13 +15,6 @@ uint32_t below(uint32_t n); /* from 0 */
 bool one_in(uint32_t n);
 uint8_t one_of(const uint8_t *choices, size_t count);
 #define ONE_OF(...) one_of((const uint8_t[]){__VA_ARGS__}, sizeof((const uint8_t[]){__VA_ARGS__}))
-
-uint64_t number_at(const uint8_t *bytes, int width);
-void put_number(uint8_t *bytes, int width, uint64_t number);
-uint8_t erased_byte(const uint8_t *volume);
-
-/* Returns the offset of the first cell of a volume, by its header. */
-size_t first_cell(const uint8_t *volume, size_t len);
 
 /* Makes room for `count` bytes at an offset. Returns the new number of bytes, or the old number if the new number is
  * above `most`. */

@@ -2,32 +2,40 @@
 /* Checks fv_volume_compare: the result is the same both ways, and two volumes are the same if their digests are
  * equal. */
 #define _GNU_SOURCE
-#include "coverage.h"
-#include "harness.h"
-#include "heap.h"
-#include "results.h"
-#include "rooms.h"
-
-struct input {
-    const uint8_t *bytes;
-    size_t len;
-};
-
-/* The results of a comparison. */
-struct outcome {
-    fv_result result;
-    fv_comparison found;
-    fv_fault fault;
-};
+#include "rows.h"
 
 static const fv_comparison unset_comparison = {UINT64_C(0x0102030405060708), 0x090a0b0c, 0x0d0e0f10};
 
-static struct outcome compare(struct input a, struct input b, void *text, size_t room)
+/* The inputs of `compare`, and what it has found in them, or unset_comparison. */
+static struct input first, second;
+static fv_comparison found;
+
+/* Compares the inputs. The rows are the bytes of the text, with its NUL. If memory runs out, either input may have
+ * taken it. */
+static fv_result compare(const uint8_t *bytes, size_t len, void *text, size_t room, size_t *count, fv_fault *fault)
 {
-    struct outcome it = {0, unset_comparison, unset_fault};
-    it.result = fv_volume_compare(a.bytes, a.len, b.bytes, b.len, text, room, &it.found, &it.fault);
-    check_no_block_is_kept("compare");
-    return it;
+    (void)bytes, (void)len;
+    fv_comparison it = unset_comparison;
+    fv_result result = fv_volume_compare(first.bytes, first.len, second.bytes, second.len, text, room, &it, fault);
+    bool is_first = !memcmp(&found, &unset_comparison, sizeof found);
+    const fv_comparison *expected = !is_counted(result) ? &unset_comparison : is_first ? &it : &found;
+    CHECK(!memcmp(&it, expected, sizeof it), "compare: result %u, and has found something else", result);
+    if (is_counted(result)) {
+        found = it;
+        *count = it.text_length + 1;
+    }
+    if (result == FV_OUT_OF_MEMORY && fault) {
+        CHECK(fault->input <= 1, "compare: input %u", fault->input);
+        fault->input = 0;
+    }
+    return result;
+}
+
+static void begin(struct input a, struct input b)
+{
+    first = a;
+    second = b;
+    found = unset_comparison;
 }
 
 /* Counts the kind of a difference and the steps to it, without the numbers of these steps. */
@@ -39,98 +47,73 @@ static void saw_difference(const char *text)
     saw(SEEN_DIFFERENCE, hash, 0, 0);
 }
 
-static void check_digests(struct input a, struct input b, const fv_comparison *found)
+static void check_digests(struct input a, struct input b)
 {
     fv_sha256 of_a, of_b;
-    fv_result first = fv_volume_digest(a.bytes, a.len, &of_a, NULL);
-    fv_result second = fv_volume_digest(b.bytes, b.len, &of_b, NULL);
-    if (!first && !second) CHECK(found->same == !memcmp(&of_a, &of_b, sizeof of_a), "compare and the digests");
-    if (found->same) CHECK(first == second, "compare: same, and the digests have %u and %u", first, second);
+    fv_result of_first = fv_volume_digest(a.bytes, a.len, &of_a, NULL);
+    fv_result of_second = fv_volume_digest(b.bytes, b.len, &of_b, NULL);
+    if (!of_first && !of_second) CHECK(found.same == !memcmp(&of_a, &of_b, sizeof of_a), "compare and the digests");
+    if (found.same) CHECK(of_first == of_second, "compare: same, and the digests have %u and %u", of_first, of_second);
 }
 
-/* Tries four buffers: a buffer that is a byte too short for the text and its NUL, no buffer, a buffer of exactly this
- * size, and a buffer with an extra byte. */
-static void try_buffers(struct input a, struct input b, const fv_comparison *found)
+static void check_text(const char *text)
 {
-    size_t needed = found->text_length + 1;
-    for (size_t room = needed - 1; room <= needed + 1; room++) {
-        uint8_t *text = new_buffer(room, 1);
-        struct outcome it = compare(a, b, text, room);
-        check_plain("compare", it.result, room < needed ? FV_BUFFER_TOO_SMALL : FV_OK, &it.fault);
-        CHECK(!memcmp(&it.found, found, sizeof *found), "compare has found something else with room %zu", room);
-        if (it.result)
-            check_untouched(text, "compare");
-        else
-            check_written(text, needed, "compare");
-    }
-    struct outcome it = compare(a, b, no_buffer(), 0);
-    check_plain("compare", it.result, FV_BUFFER_TOO_SMALL, &it.fault);
-    CHECK(!memcmp(&it.found, found, sizeof *found), "compare has found something else without room");
-}
-
-static void check_text(const char *text, const char *other, const fv_comparison *found, const fv_comparison *back)
-{
-    CHECK(!memcmp(found, back, sizeof *found), "compare: both ways");
-    CHECK(found->text_length < FV_DIFFERENCE_SIZE && !found->reserved, "compare: a text of %lu", found->text_length);
-    CHECK(strnlen(text, FV_DIFFERENCE_SIZE) == found->text_length, "compare: the end of the text");
-    CHECK(!strcmp(text, other), "compare: the texts of both ways");
-    if (found->same) {
-        CHECK(!strcmp(text, "same"), "compare: the text of what is the same");
+    CHECK(found.text_length < FV_DIFFERENCE_SIZE && !found.reserved, "compare: a text of %lu", found.text_length);
+    CHECK(strnlen(text, FV_DIFFERENCE_SIZE) == found.text_length, "compare: the end of the text");
+    if (found.same) {
+        CHECK(found.same == 1 && !strcmp(text, "same"), "compare: the text of what is the same");
     } else {
-        CHECK(!strncmp(text, "different at ", 13) && found->text_length > 13, "compare: the text of a difference");
+        CHECK(!strncmp(text, "different at ", 13) && found.text_length > 13, "compare: the text of a difference");
         saw_difference(text + 13);
     }
 }
 
 /* Checks that the fault is the fault of the first input, or the fault of the second input if the first input is a
  * volume. */
-static void check_fault(struct input a, struct input b, const struct outcome *it)
+static void check_fault(struct input a, struct input b, fv_result result, const fv_fault *fault)
 {
     fv_fault own;
     uint32_t canonical;
-    struct input of_fault = it->fault.input ? b : a;
-    check_result("compare", it->result, &it->fault, FV_FAULT_DEPTH, of_fault.len);
-    CHECK(!memcmp(&it->found, &unset_comparison, sizeof it->found), "compare has changed what it found");
-    fv_result first = fv_volume_is_canonical(a.bytes, a.len, &canonical, &own);
-    CHECK(it->fault.input == !first, "compare: input %u, and the first has %u", it->fault.input, first);
-    fv_result result = fv_volume_is_canonical(of_fault.bytes, of_fault.len, &canonical, &own);
-    own.input = it->fault.input;
-    CHECK(result == it->result && is_same_fault(&own, &it->fault), "compare: %u of input %u, is_canonical: %u",
-          it->result, own.input, result);
-    uint8_t *some = new_buffer(FV_DIFFERENCE_SIZE, 1);
-    CHECK(compare(a, b, some, FV_DIFFERENCE_SIZE).result == it->result, "compare: %u, and then another", it->result);
-    check_untouched(some, "compare of a volume that is rejected");
+    struct input of_fault = fault->input ? b : a;
+    check_result("compare", result, fault, FV_FAULT_DEPTH, of_fault.len);
+    fv_result of_first = fv_volume_is_canonical(a.bytes, a.len, &canonical, &own);
+    CHECK(fault->input == !of_first, "compare: input %u, and the first has %u", fault->input, of_first);
+    fv_result usual = fv_volume_is_canonical(of_fault.bytes, of_fault.len, &canonical, &own);
+    own.input = fault->input;
+    CHECK(result == usual && is_same_fault(&own, fault), "compare: %u of input %u, is_canonical: %u", result, own.input,
+          usual);
+}
+
+bool try_comparison(struct input a, struct input b, const uint8_t *parameters)
+{
+    char text[FV_DIFFERENCE_SIZE] = "", other[FV_DIFFERENCE_SIZE] = "";
+    const struct rows rows = {"compare", compare, 1, 1, sizeof text, a.bytes, a.len, parameters, 0};
+    size_t count;
+    fv_fault fault, of_back;
+    begin(b, a);
+    fv_result back = compare(NULL, 0, other, sizeof other, &count, &of_back);
+    fv_comparison found_back = found;
+    begin(a, b);
+    fv_result result = try_rows(&rows, text, &count, &fault);
+    CHECK(!result == !back, "compare: %u, and the other way %u", result, back);
+    CHECK(!memcmp(&found, &found_back, sizeof found) && !strncmp(text, other, sizeof text), "compare: both ways");
+    /* Other inputs are also compared, with themselves. They are not kept for that. */
+    if (parameters[MODE] % MODES == AS_PAIR) saw(SEEN_PAIR, result, fault.input, 0);
+    if (result) {
+        check_fault(a, b, result, &fault);
+        return false;
+    }
+    check_text(text);
+    check_digests(a, b);
+    return found.same;
 }
 
 void try_pair(const uint8_t *bytes, size_t len, const uint8_t *parameters)
 {
-    char text[FV_DIFFERENCE_SIZE], other[FV_DIFFERENCE_SIZE];
     fv_header header;
     size_t parted = len / 2 & ~(size_t)7;
     bool is_after_first = parameters[PAIR] & 1 && len > 64;
     if (is_after_first && fv_header_read(bytes, len, &header, NULL) == FV_OK && header.length < len)
         parted = header.length;
-    struct input a = {bytes, parted}, b = {bytes + parted, len - parted};
-    struct outcome it = compare(a, b, text, sizeof text), back = compare(b, a, other, sizeof other);
-    CHECK(!it.result == !back.result, "compare: %u, and the other way %u", it.result, back.result);
-    saw(SEEN_PAIR, it.result, it.fault.input, 0);
-    if (it.result == FV_OK) {
-        CHECK(is_no_fault(&it.fault), "compare: no fault, and fault %u", it.fault.result);
-        check_text(text, other, &it.found, &back.found);
-        check_digests(a, b, &it.found);
-        try_buffers(a, b, &it.found);
-    } else {
-        check_fault(a, b, &it);
-    }
-    uint8_t *kept = new_buffer(FV_DIFFERENCE_SIZE, 1);
-    fv_comparison found = unset_comparison;
-    fv_fault fault = unset_fault, *wanted = FAULT_OR_NULL(parameters, &fault);
-    refuse_allocation(parameters[REFUSED]);
-    fv_result again =
-        fv_volume_compare(a.bytes, a.len, b.bytes, b.len, (char *)kept, FV_DIFFERENCE_SIZE, &found, wanted);
-    if (wanted && again == FV_OUT_OF_MEMORY) wanted->input = 0; /* either input may have taken memory */
-    check_refusal("compare", again, it.result, wanted);
-    if (!again) return;
-    check_untouched(kept, "compare without memory");
-    CHECK(!memcmp(&found, &unset_comparison, sizeof found), "compare has changed what it found without memory");
+    try_comparison((struct input){bytes, parted}, (struct input){bytes + parted, len - parted}, parameters);
 }

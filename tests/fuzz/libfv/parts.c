@@ -1,24 +1,26 @@
 /* SPDX-License-Identifier: BSD-2-Clause-Patent */
 /* Checks fv_volume_extract: the part of a row has the bytes that the image has for that row, at every level, and the
  * part of the first row is the image. */
-#include "coverage.h"
-#include "heap.h"
-#include "results.h"
-#include "rooms.h"
+#include "rows.h"
 #include "volume.h"
 
 /* The largest number of rows that are extracted. */
 #define MOST_PARTS 9u
 
 static uint8_t part[MOST_BUFFER];
+static size_t row_of_call;
 
-static fv_result extract(const struct volume *v, size_t row, void *buffer, size_t room, size_t *length, fv_fault *fault)
+static fv_result extract(const uint8_t *bytes, size_t len, void *buffer, size_t room, size_t *length, fv_fault *fault)
 {
-    *length = UNTOUCHED_64;
-    *fault = unset_fault;
-    fv_result result = fv_volume_extract(v->bytes, v->len, row, buffer, room, length, fault);
-    check_no_block_is_kept("extract");
-    return result;
+    return fv_volume_extract(bytes, len, row_of_call, buffer, room, length, fault);
+}
+
+/* Makes all calls for a row. Reads its bytes to `part`. */
+static fv_result try_row(const struct volume *v, size_t row, size_t *length, fv_fault *fault)
+{
+    const struct rows rows = {"extract", extract, 1, 1, sizeof part, v->bytes, v->len, v->parameters, row % 3};
+    row_of_call = row;
+    return try_rows(&rows, part, length, fault);
 }
 
 /* Checks that a part is rejected only if a volume in it does not fit in its canonical form. Then the parent of the part
@@ -26,38 +28,17 @@ static fv_result extract(const struct volume *v, size_t row, void *buffer, size_
 static void check_no_part(const struct volume *v, size_t row, fv_result result, const fv_fault *fault)
 {
     size_t length;
-    fv_fault of_parent;
     check_result("extract", result, fault, FV_FAULT_TOP_ALIGNMENT, v->len);
     CHECK((result == FV_FAULT_NO_ROOM || result == FV_FAULT_TOP_ALIGNMENT) && !v->image, "extract: %u, normalise: %u",
           result, v->result);
     if (!row) {
-        CHECK(result == v->result && is_same_fault(fault, &v->fault),
-              "extract: %u of the first row, normalise: %u", result,
-              v->result);
+        check_agrees("extract of the first row", v, result, fault, v->result, FV_FAULT_TOP_ALIGNMENT);
         return;
     }
     uint64_t parent = v->nodes[row].parent;
-    fv_result above = extract(v, parent, no_buffer(), 0, &length, &of_parent);
+    fv_result above = fv_volume_extract(v->bytes, v->len, parent, NULL, 0, &length, NULL);
     CHECK(above == FV_FAULT_NO_ROOM || above == FV_FAULT_TOP_ALIGNMENT, "extract: %u of row %zu, %u of %lu", result,
           row, above, parent);
-}
-
-/* Tries a larger buffer, and a buffer that is a byte too short. */
-static void try_other_rooms(const struct volume *v, size_t row, size_t len)
-{
-    size_t length, room = len + 1 + v->parameters[FILE_CHOICE] % 9;
-    fv_fault fault;
-    uint8_t *more = new_buffer(room, 1);
-    check_plain("extract", extract(v, row, more, room, &length, &fault), FV_OK, &fault);
-    CHECK(length == len, "extract: %lu bytes, then %lu", len, length);
-    check_written(more, len, "extract");
-    if (!len) return;
-    uint8_t *less = new_buffer(len - 1, 1);
-    check_plain("extract", extract(v, row, less, len - 1, &length, &fault), FV_BUFFER_TOO_SMALL, &fault);
-    CHECK(length == len, "extract: %lu bytes, then %lu", len, length);
-    check_untouched(less, "extract");
-    check_plain("extract", extract(v, row, no_buffer(), 0, &length, &fault), FV_BUFFER_TOO_SMALL, &fault);
-    CHECK(length == len, "extract: %lu bytes, then %lu", len, length);
 }
 
 /* Checks the bytes in `part`. The image has the same bytes, and so has the input if only their place may differ. */
@@ -84,48 +65,34 @@ static void try_part(const struct volume *v, size_t row)
     const fv_node *node = v->nodes + row;
     size_t length;
     fv_fault fault;
-    uint8_t *buffer = new_buffer(node->length, 1);
-    fv_result result = extract(v, row, buffer, node->length, &length, &fault);
+    fv_result result = try_row(v, row, &length, &fault);
     saw(SEEN_PART, result, node->kind * 4 + node->content, node->depth);
     if (result) {
-        check_untouched(buffer, "extract");
-        CHECK(length == UNTOUCHED_64, "extract has changed the length");
         check_no_part(v, row, result, &fault);
-    } else {
-        CHECK(length == node->length && is_no_fault(&fault), "extract: row %zu: %lu of %lu", row, length, node->length);
-        check_written(buffer, length, "extract");
-        memcpy(part, buffer, length);
-        check_part(v, row);
-        try_other_rooms(v, row, length);
+        return;
     }
-    buffer = new_buffer(node->length, 1);
-    fv_fault *wanted = FAULT_OR_NULL(v->parameters, &fault);
-    refuse_allocation(v->parameters[REFUSED + row % 3]);
-    fv_result again = fv_volume_extract(v->bytes, v->len, row, buffer, node->length, &length, wanted);
-    check_refusal("extract", again, result, wanted);
-    if (again) check_untouched(buffer, "extract without memory");
+    CHECK(length == node->length, "extract: row %zu: %lu of %lu", row, length, node->length);
+    check_part(v, row);
 }
 
 /* Checks that the tree has no row with this number. */
 static void check_no_row(const struct volume *v, size_t row)
 {
-    size_t length;
-    fv_fault fault;
-    check_plain("extract", extract(v, row, no_buffer(), 0, &length, &fault), FV_NOT_FOUND, &fault);
+    size_t length = UNTOUCHED_64;
+    fv_fault fault = unset_fault;
+    fv_result result = fv_volume_extract(v->bytes, v->len, row, no_buffer(), 0, &length, &fault);
+    check_no_block_is_kept("extract");
+    check_plain("extract", result, FV_NOT_FOUND, &fault);
     CHECK(length == UNTOUCHED_64, "extract has changed the length");
 }
 
 /* Checks that each row of a rejected volume has the fault of the volume, also a row that cannot exist. */
 static void check_rejected(const struct volume *v)
 {
-    size_t length;
+    size_t length, row = v->parameters[ROW_CHOICE] & 1 ? SIZE_MAX : v->parameters[ROW_CHOICE] / 2;
     fv_fault fault;
-    uint8_t *some = new_buffer(64, 1);
-    size_t row = v->parameters[ROW_CHOICE] & 1 ? SIZE_MAX : v->parameters[ROW_CHOICE] / 2;
-    fv_result result = extract(v, row, some, 64, &length, &fault);
-    CHECK(result == v->unread && is_same_fault(&fault, &v->fault), "extract: %u, tree: %u", result, v->unread);
-    CHECK(length == UNTOUCHED_64, "extract has changed the length");
-    check_untouched(some, "extract of a volume that is rejected");
+    fv_result result = try_row(v, row, &length, &fault);
+    check_agrees("extract", v, result, &fault, v->unread, FV_FAULT_DEPTH);
 }
 
 void try_parts(const struct volume *v)

@@ -1,17 +1,10 @@
 /* SPDX-License-Identifier: BSD-2-Clause-Patent */
-#include "plant.h"
-#include "mutate.h"
-#include <stdlib.h>
-
-#undef fv_image_scan
-#undef fv_image_check
-#undef fv_volume_normalise
-#undef fv_volume_unfix
-#undef fv_volume_compare
-#undef fv_volume_tree
-#undef fv_volume_tree_digests
-#undef fv_volume_extract
-#undef fv_depex_evaluate
+/* Faults that are put into calls of the library, to check that the harness finds them. The environment variable PLANT
+ * has the number of the active fault, as in PLANT=1. The program that looks for true findings does not contain these
+ * faults. `build` has the linker replace each call that WRAPS names: by __wrap_fv_.., which makes the library's call by
+ * the name __real_fv_... */
+#include "format.h"
+#include "harness.h"
 
 /* The numbers of the planted faults. */
 enum {
@@ -34,6 +27,17 @@ enum {
     THIRD_NAME       /* the name of the third of several volumes that are found is zeros */
 };
 
+#define WRAPS(call) __typeof__(call) __wrap_##call, __real_##call
+WRAPS(fv_volume_normalise);
+WRAPS(fv_volume_unfix);
+WRAPS(fv_volume_compare);
+WRAPS(fv_image_scan);
+WRAPS(fv_image_check);
+WRAPS(fv_volume_tree);
+WRAPS(fv_volume_tree_digests);
+WRAPS(fv_volume_extract);
+WRAPS(fv_depex_evaluate);
+
 static int planted(void)
 {
     const char *number = getenv("PLANT");
@@ -47,8 +51,8 @@ static int pads_of(const uint8_t *image, size_t len)
     int pads = 0;
     size_t at = first_cell(image, len);
     while (at + HEAD <= len) {
-        uint64_t size = number_at(image + at + SIZE, 3);
-        if (image[at + ATTRIBUTES] & LARGE && at + LARGE_HEAD <= len) size = number_at(image + at + LARGE_SIZE, 8);
+        bool is_large = image[at + ATTRIBUTES] & LARGE && at + LARGE_HEAD <= len;
+        uint64_t size = is_large ? file_size(image + at) : number_at(image + at + SIZE, 3);
         if (size < HEAD || size > len - at) break;
         pads += image[at + KIND] == 0xF0;
         at = (at + size + 7) & ~(size_t)7;
@@ -56,9 +60,9 @@ static int pads_of(const uint8_t *image, size_t len)
     return pads;
 }
 
-fv_result planted_volume_normalise(const void *volume, size_t size, void *buffer, size_t buffer_size, fv_fault *fault)
+fv_result __wrap_fv_volume_normalise(const void *volume, size_t size, void *buffer, size_t buffer_size, fv_fault *fault)
 {
-    fv_result result = fv_volume_normalise(volume, size, buffer, buffer_size, fault);
+    fv_result result = __real_fv_volume_normalise(volume, size, buffer, buffer_size, fault);
     uint8_t *image = buffer;
     int plant = planted();
     if (plant == TWO_PADS && !result && pads_of(image, size) == 2) image[size - 1] ^= 1;
@@ -67,9 +71,9 @@ fv_result planted_volume_normalise(const void *volume, size_t size, void *buffer
     return result;
 }
 
-fv_result planted_volume_unfix(const void *volume, size_t size, void *buffer, size_t buffer_size, fv_fault *fault)
+fv_result __wrap_fv_volume_unfix(const void *volume, size_t size, void *buffer, size_t buffer_size, fv_fault *fault)
 {
-    fv_result result = fv_volume_unfix(volume, size, buffer, buffer_size, fault);
+    fv_result result = __real_fv_volume_unfix(volume, size, buffer, buffer_size, fault);
     const uint8_t *input = volume;
     uint8_t *copy = buffer;
     if (planted() != SECOND_MARK || result) return result;
@@ -82,43 +86,43 @@ fv_result planted_volume_unfix(const void *volume, size_t size, void *buffer, si
     return result;
 }
 
-fv_result planted_volume_compare(const void *first, size_t first_size, const void *second, size_t second_size,
-                                 char *text, size_t text_size, fv_comparison *found, fv_fault *fault)
+fv_result __wrap_fv_volume_compare(const void *first, size_t first_size, const void *second, size_t second_size,
+                                   char *text, size_t text_size, fv_comparison *found, fv_fault *fault)
 {
-    fv_result result = fv_volume_compare(first, first_size, second, second_size, text, text_size, found, fault);
+    fv_result result = __real_fv_volume_compare(first, first_size, second, second_size, text, text_size, found, fault);
     if (planted() == NO_NUL && !result && strstr(text, " section ")) text[found->text_length] = '\n';
     if (planted() == FIRST_INPUT && result == FV_FAULT_FILE_SUM && fault) fault->input = 0;
     return result;
 }
 
-fv_result planted_image_scan(const void *image, size_t size, fv_header *rows, size_t room, size_t *count,
-                             fv_fault *fault)
+fv_result __wrap_fv_image_scan(const void *image, size_t size, fv_header *rows, size_t room, size_t *count,
+                               fv_fault *fault)
 {
-    fv_result result = fv_image_scan(image, size, rows, room, count, fault);
+    fv_result result = __real_fv_image_scan(image, size, rows, room, count, fault);
     if (planted() == THIRD_NAME && !result && *count > 2) memset(&rows[2].name, 0, sizeof rows[2].name);
     if (planted() != FOURTH_VOLUME || result == FV_OUT_OF_MEMORY || *count != 4) return result;
     fv_header all[4];
     if (room == 3) {
-        result = fv_image_scan(image, size, all, 4, count, fault);
+        result = __real_fv_image_scan(image, size, all, 4, count, fault);
         memcpy(rows, all, 3 * sizeof *all);
     }
     *count = 3;
     return result;
 }
 
-fv_result planted_image_check(const void *image, size_t size, fv_volume_check *rows, size_t room, size_t *count,
-                              fv_fault *fault)
+fv_result __wrap_fv_image_check(const void *image, size_t size, fv_volume_check *rows, size_t room, size_t *count,
+                                fv_fault *fault)
 {
-    fv_result result = fv_image_check(image, size, rows, room, count, fault);
+    fv_result result = __real_fv_image_check(image, size, rows, room, count, fault);
     if (planted() == UNMOVED_FAULT && !result && *count > 1 && rows[1].fault.result)
         rows[1].fault.offset -= rows[1].offset;
     return result;
 }
 
-fv_result planted_volume_tree(const void *volume, size_t size, fv_node *rows, size_t room, size_t *count,
-                              fv_fault *fault)
+fv_result __wrap_fv_volume_tree(const void *volume, size_t size, fv_node *rows, size_t room, size_t *count,
+                                fv_fault *fault)
 {
-    fv_result result = fv_volume_tree(volume, size, rows, room, count, fault);
+    fv_result result = __real_fv_volume_tree(volume, size, rows, room, count, fault);
     const uint8_t *bytes = volume;
     static const fv_guid no_name;
     for (size_t i = 0; !result && i < *count; i++) {
@@ -131,10 +135,10 @@ fv_result planted_volume_tree(const void *volume, size_t size, fv_node *rows, si
     return result;
 }
 
-fv_result planted_volume_tree_digests(const void *volume, size_t size, fv_sha256 *rows, size_t room, size_t *count,
-                                      fv_fault *fault)
+fv_result __wrap_fv_volume_tree_digests(const void *volume, size_t size, fv_sha256 *rows, size_t room, size_t *count,
+                                        fv_fault *fault)
 {
-    fv_result result = fv_volume_tree_digests(volume, size, rows, room, count, fault);
+    fv_result result = __real_fv_volume_tree_digests(volume, size, rows, room, count, fault);
     int plant = planted();
     if (plant == SIXTH_DIGEST && !result && *count == 6 && rows[5].bytes[0]) rows[5].bytes[31] ^= 1;
     if (plant == DIGEST_ON_FAULT && result && result < FV_OUT_OF_MEMORY && room) rows[0].bytes[0] ^= 1;
@@ -142,10 +146,10 @@ fv_result planted_volume_tree_digests(const void *volume, size_t size, fv_sha256
     return result;
 }
 
-fv_result planted_volume_extract(const void *volume, size_t size, size_t row, void *buffer, size_t buffer_size,
-                                 size_t *length, fv_fault *fault)
+fv_result __wrap_fv_volume_extract(const void *volume, size_t size, size_t row, void *buffer, size_t buffer_size,
+                                   size_t *length, fv_fault *fault)
 {
-    fv_result result = fv_volume_extract(volume, size, row, buffer, buffer_size, length, fault);
+    fv_result result = __real_fv_volume_extract(volume, size, row, buffer, buffer_size, length, fault);
     uint8_t *part = buffer;
     if (planted() == SHORT_VOLUME && !result && row && *length > 60 && !memcmp(part + SIGNATURE, "_FVH", 4))
         part[*length - 1] ^= 0x10;
@@ -153,10 +157,10 @@ fv_result planted_volume_extract(const void *volume, size_t size, size_t row, vo
     return result;
 }
 
-fv_result planted_depex_evaluate(const void *expression, size_t size, uint32_t phase, const fv_guid *installed,
-                                 size_t installed_count, uint32_t *value, fv_fault *fault)
+fv_result __wrap_fv_depex_evaluate(const void *expression, size_t size, uint32_t phase, const fv_guid *installed,
+                                   size_t installed_count, uint32_t *value, fv_fault *fault)
 {
-    fv_result result = fv_depex_evaluate(expression, size, phase, installed, installed_count, value, fault);
+    fv_result result = __real_fv_depex_evaluate(expression, size, phase, installed, installed_count, value, fault);
     const uint8_t *ops = expression;
     if (planted() == NO_NOT && !result && *value < 2 && size > 3 && ops[1] == 7 && ops[2] == 5) *value ^= 1;
     return result;

@@ -12,13 +12,6 @@ static uint8_t sum_of(const uint8_t *bytes, size_t len)
     return sum;
 }
 
-static bool is_all(const uint8_t *bytes, size_t len, uint8_t value)
-{
-    for (size_t i = 0; i < len; i++)
-        if (bytes[i] != value) return false;
-    return true;
-}
-
 /* Returns the size of the section at the start of the bytes. A size that is too small or too large is corrected.
  * Returns 0 if it is left wrong. */
 static size_t repair_size(uint8_t *section, size_t left, size_t *header)
@@ -78,13 +71,10 @@ static void repair_block_map(uint8_t *volume, size_t len, size_t header)
 
 static void repair_names(uint8_t *volume)
 {
-    static const uint8_t systems[2][16] = {
-        {0x78, 0xe5, 0x8c, 0x8c, 0x3d, 0x8a, 0x1c, 0x4f, 0x99, 0x35, 0x89, 0x61, 0x85, 0xc3, 0x2d, 0xd3},
-        {0x7a, 0xc0, 0x73, 0x54, 0xcb, 0x3d, 0xca, 0x4d, 0xbd, 0x6f, 0x1e, 0x96, 0x89, 0xe7, 0x34, 0x9a}};
     memcpy(volume + SIGNATURE, "_FVH", 4);
     volume[REVISION] = 2;
-    if (memcmp(volume + FILE_SYSTEM, systems[0], 16) && memcmp(volume + FILE_SYSTEM, systems[1], 16))
-        memcpy(volume + FILE_SYSTEM, systems[below(2)], 16);
+    if (memcmp(volume + FILE_SYSTEM, file_systems[0], 16) && memcmp(volume + FILE_SYSTEM, file_systems[1], 16))
+        memcpy(volume + FILE_SYSTEM, file_systems[below(2)], 16);
 }
 
 static void repair_ext_header(uint8_t *volume, size_t len, size_t header)

@@ -1,7 +1,5 @@
 /* SPDX-License-Identifier: BSD-2-Clause-Patent */
-#include "results.h"
 #include "harness.h"
-#include "heap.h"
 #include <stdarg.h>
 
 const fv_fault unset_fault = {UINT64_C(0x1122334455667788), 0x99aabbcc, 0xddeeff00, 0x12345678, 0x9abcdef0};
@@ -17,9 +15,22 @@ _Noreturn void finding(const char *function, int line, const char *text, ...)
     abort();
 }
 
+bool is_all(const void *bytes, size_t len, uint8_t value)
+{
+    const uint8_t *at = bytes;
+    for (size_t i = 0; i < len; i++)
+        if (at[i] != value) return false;
+    return true;
+}
+
+bool is_counted(fv_result result)
+{
+    return result == FV_OK || result == FV_BUFFER_TOO_SMALL;
+}
+
 bool is_no_fault(const fv_fault *fault)
 {
-    return !fault->offset && !fault->result && !fault->depth && !fault->input && !fault->reserved;
+    return is_all(fault, sizeof *fault, 0);
 }
 
 bool is_same_fault(const fv_fault *a, const fv_fault *b)
@@ -46,16 +57,6 @@ void check_plain(const char *call, fv_result result, fv_result wanted, const fv_
     CHECK(is_no_fault(fault), "%s: result %u, and fault %u at %lu", call, result, fault->result, fault->offset);
 }
 
-void check_short(const char *call, fv_result result, const fv_fault *fault, fv_result otherwise, const fv_fault *usual)
-{
-    if (otherwise == FV_OK) {
-        check_plain(call, result, FV_BUFFER_TOO_SMALL, fault);
-        return;
-    }
-    CHECK(result == otherwise && is_same_fault(fault, usual), "%s, short buffer: fault %u at %lu, not %u at %lu", call,
-          result, fault->offset, otherwise, usual->offset);
-}
-
 void check_refusal(const char *call, fv_result result, fv_result otherwise, const fv_fault *fault)
 {
     bool was_refused = end_refusal();
@@ -68,11 +69,4 @@ void check_refusal(const char *call, fv_result result, fv_result otherwise, cons
     if (!fault) return;
     CHECK(fault->result == FV_OUT_OF_MEMORY && !fault->offset && !fault->depth && !fault->input && !fault->reserved,
           "%s: result %u, and fault %u at %lu, depth %u", call, result, fault->result, fault->offset, fault->depth);
-}
-
-void check_bad_argument(const char *call, fv_result result, const fv_fault *fault)
-{
-    CHECK(result == FV_BAD_ARGUMENT, "%s: result %u with a bad argument", call, result);
-    CHECK(is_same_fault(fault, &unset_fault), "%s has written a fault after a bad argument", call);
-    CHECK(fv_result_text(result)[0], "%s: result %u has no text", call, result);
 }

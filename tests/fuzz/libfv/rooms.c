@@ -1,15 +1,15 @@
 /* SPDX-License-Identifier: BSD-2-Clause-Patent */
 /* A read or a write past an argument ends the process by a signal, or changes a byte that is UNTOUCHED. */
 #define _GNU_SOURCE
-#include "rooms.h"
 #include "harness.h"
 #include <sys/mman.h>
 
 #define PAGE 4096u
-#define BEFORE 64u /* the number of checked bytes before a buffer */
+#define BESIDE 64u /* the number of checked bytes before and after a buffer */
 
 static uint8_t *input, *output;
-static bool is_null;
+static bool is_at_start, is_null;
+static uint8_t *buffer, *from, *to; /* the buffer, and the bytes that are checked: the buffer and the bytes beside it */
 
 static uint8_t *open_room(void)
 {
@@ -24,47 +24,42 @@ void open_rooms(void)
     output = open_room();
 }
 
-uint8_t *input_room(size_t len, bool at_start)
+const uint8_t *place_input(const uint8_t *data, size_t len, bool at_start)
 {
+    uint8_t *place = at_start ? input : input + MOST_BUFFER - len;
     is_null = true;
-    return at_start ? input : input + MOST_BUFFER - len;
-}
-
-static size_t looked_at_before(const uint8_t *buffer)
-{
-    size_t before = (size_t)(buffer - output);
-    return before < BEFORE ? before : BEFORE;
+    is_at_start = at_start;
+    if (mprotect(input, MOST_BUFFER, PROT_READ | PROT_WRITE)) abort();
+    memcpy(place, data, len);
+    if (mprotect(input, MOST_BUFFER, PROT_READ)) abort();
+    return place;
 }
 
 uint8_t *new_buffer(size_t len, size_t alignment)
 {
-    uint8_t *buffer = output + MOST_BUFFER - (len + alignment - 1) / alignment * alignment;
-    size_t before = looked_at_before(buffer);
-    memset(buffer - before, UNTOUCHED, before + (size_t)(output + MOST_BUFFER - buffer));
+    size_t taken = (len + alignment - 1) / alignment * alignment;
+    size_t at = is_at_start ? 0 : MOST_BUFFER - taken, end = at + taken;
+    buffer = output + at;
+    from = buffer - (at < BESIDE ? at : BESIDE);
+    to = output + (MOST_BUFFER - end < BESIDE ? MOST_BUFFER : end + BESIDE);
+    memset(from, UNTOUCHED, (size_t)(to - from));
     return buffer;
 }
 
 void *no_buffer(void)
 {
-    uint8_t *buffer = new_buffer(0, 8);
+    uint8_t *none = new_buffer(0, 8);
     is_null = !is_null;
-    return is_null ? NULL : buffer;
+    return is_null ? NULL : none;
 }
 
-static bool is_untouched(const uint8_t *from, const uint8_t *to)
+void check_untouched(const char *call)
 {
-    while (from < to)
-        if (*from++ != UNTOUCHED) return false;
-    return true;
+    CHECK(is_all(from, (size_t)(to - from), UNTOUCHED), "%s has written to a buffer", call);
 }
 
-void check_untouched(const uint8_t *buffer, const char *call)
+void check_written(size_t len, const char *call)
 {
-    CHECK(is_untouched(buffer - looked_at_before(buffer), output + MOST_BUFFER), "%s has written to a buffer", call);
-}
-
-void check_written(const uint8_t *buffer, size_t len, const char *call)
-{
-    CHECK(is_untouched(buffer - looked_at_before(buffer), buffer), "%s has written before its buffer", call);
-    CHECK(is_untouched(buffer + len, output + MOST_BUFFER), "%s has written more than it reports", call);
+    CHECK(is_all(from, (size_t)(buffer - from), UNTOUCHED), "%s has written before its buffer", call);
+    CHECK(is_all(buffer + len, (size_t)(to - buffer) - len, UNTOUCHED), "%s has written more than it reports", call);
 }

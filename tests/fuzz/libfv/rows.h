@@ -1,60 +1,44 @@
 /* SPDX-License-Identifier: BSD-2-Clause-Patent */
-/* The checks of calls that write rows into a buffer, or as many bytes as their input has. */
+/* The checks of a call that writes to a buffer: rows, or bytes, which are rows of one byte. */
 #ifndef ROWS_H
 #define ROWS_H
 
-#include <fv.h>
-#include <stdbool.h>
-#include <stddef.h>
-#include <stdint.h>
+#include "harness.h"
 
-/* Defines `call`, which makes a call of the library for `struct rows`. */
+/* A call of the library for `struct rows`, and two definitions of such a call: of a function that writes rows and
+ * counts them, and of a function that writes as many bytes as its input has. */
+typedef fv_result rows_call(const uint8_t *bytes, size_t len, void *rows, size_t room, size_t *count, fv_fault *fault);
 #define ROWS_CALL(call, function)                                                                                      \
     static fv_result call(const uint8_t *bytes, size_t len, void *rows, size_t room, size_t *count, fv_fault *fault)   \
     {                                                                                                                  \
         return function(bytes, len, rows, room, count, fault);                                                         \
     }
+#define COPY_CALL(call, function)                                                                                      \
+    static fv_result call(const uint8_t *bytes, size_t len, void *rows, size_t room, size_t *count, fv_fault *fault)   \
+    {                                                                                                                  \
+        fv_result result = function(bytes, len, rows, room, fault);                                                    \
+        if (is_counted(result)) *count = len;                                                                          \
+        return result;                                                                                                 \
+    }
 
-/* A call, the size and the alignment of its rows, and the input that it is tried on. */
+/* A call, the size and the alignment of its rows, the most rows that are read, the input that it is tried on, and which
+ * of the three parameters is the number of the allocation that is refused. */
 struct rows {
     const char *name;
-    fv_result (*call)(const uint8_t *bytes, size_t len, void *rows, size_t room, size_t *count, fv_fault *fault);
-    size_t size, alignment;
+    rows_call *call;
+    size_t size, alignment, most;
     const uint8_t *bytes;
     size_t len;
+    const uint8_t *parameters;
+    int which;
 };
 
 /* Counts the rows by a call without a buffer. Returns 0, or the fault of a rejected input. For a rejected input, checks
- * that the call with room for rows returns the same fault and writes neither rows nor a count. */
-fv_result count_rows(const struct rows *rows, size_t *count, fv_fault *fault);
-
-/* Reads the rows. The first call has room for one row too few and must fail. The second has room for all rows, or for
- * an extra row, which must stay as it is. */
-void read_rows(const struct rows *rows, size_t n, bool has_more, void *into);
-
-/* Makes the call again with an allocation refused, and with room for all rows or for no row. `result` is the result of
- * count_rows, and `fault` may be NULL. */
-void refuse_rows(const struct rows *rows, size_t n, bool has_room, fv_result result, unsigned refused, fv_fault *fault);
-
-/* A call that writes as many bytes as its input has, and the input. make_copy adds the result of the call, and the
- * written bytes if there are any. */
-struct copy {
-    const char *name;
-    fv_result (*call)(const void *bytes, size_t len, void *buffer, size_t room, fv_fault *fault);
-    const uint8_t *bytes;
-    size_t len;
-    fv_result result;
-    fv_fault fault;
-    const uint8_t *written;
-};
-
-void make_copy(struct copy *copy, uint8_t *into);
-
-/* Makes the same copy with other buffers: no buffer, a buffer that is a byte too short, a buffer of the same size, and
- * a longer buffer. */
-void try_rooms(const struct copy *copy, const uint8_t *parameters);
-
-/* Makes the same copy with an allocation refused. */
-void refuse_copy(const struct copy *copy, const uint8_t *parameters);
+ * that the call with room for rows returns the same fault and writes neither rows nor a count.
+ *
+ * If there are no more than the most rows, reads them to `into`. The first call has room for one row too few and must
+ * fail. The second has room for all rows, or for some more, which must stay as they are. At last makes the call again
+ * with an allocation refused. */
+fv_result try_rows(const struct rows *rows, void *into, size_t *count, fv_fault *fault);
 
 #endif

@@ -9,9 +9,7 @@ from __future__ import annotations
 
 import argparse
 import random
-import sys
 from collections.abc import Iterator
-from dataclasses import dataclass
 from pathlib import Path
 
 from tests.fuzz.cases import make_case
@@ -24,14 +22,6 @@ SEED, CASES, EXPRESSIONS = 7, 300, 20
 MOST = 4000  # bytes; a small input is tried more often
 
 
-@dataclass(frozen=True)
-class Seed:
-    """A first input: the name of its file, and its bytes with the parameters."""
-
-    name: str
-    data: bytes
-
-
 def parameters(source: random.Random, mode: int, pair: int = 0) -> bytes:
     """Returns parameters of an input. In each of its first runs either no allocation fails or an early allocation
     fails."""
@@ -39,27 +29,27 @@ def parameters(source: random.Random, mode: int, pair: int = 0) -> bytes:
     return bytes([mode, pair, *source.randbytes(3), *refused])
 
 
-def seeds() -> Iterator[Seed]:
-    """Returns the inputs of FOLDER/seeds."""
+def seeds() -> Iterator[tuple[str, bytes]]:
+    """Yields the inputs of FOLDER/seeds: the name of each, and its bytes with the parameters."""
     source = random.Random(SEED)
     for number in range(CASES):
         case = make_case(SEED, number)
         if case.kind in MODES and len(case.data) <= MOST:
-            yield Seed(f"{case.kind}-{number}", parameters(source, MODES[case.kind]) + case.data)
+            yield f"{case.kind}-{number}", parameters(source, MODES[case.kind]) + case.data
         if case.twin and len(case.data + case.twin) <= MOST and number % 4 == 0:
-            yield Seed(f"pair-{number}", parameters(source, AS_PAIR, 1) + case.data + case.twin)
+            yield f"pair-{number}", parameters(source, AS_PAIR, 1) + case.data + case.twin
     for number in range(EXPRESSIONS):
         ops = Maker(f"expression {number}").expression()
-        yield Seed(f"expression-{number}", parameters(source, AS_EXPRESSION, source.randrange(4)) + ops)
+        yield f"expression-{number}", parameters(source, AS_EXPRESSION, source.randrange(4)) + ops
 
 
-def few() -> Iterator[Seed]:
-    """Returns the inputs of FOLDER/few."""
+def few() -> Iterator[tuple[str, bytes]]:
+    """Yields the inputs of FOLDER/few."""
     none_refused = bytes([0, 0, 0, 0, 255, 255, 255])
     empty = volume([], 192, system=FFS3)
-    yield Seed("volume", bytes([AS_VOLUME]) + none_refused + empty)
-    yield Seed("image", bytes([AS_IMAGE_AND_VOLUME]) + none_refused + empty)
-    yield Seed("expression", bytes([AS_EXPRESSION]) + none_refused + b"\x06\x08")
+    yield "volume", bytes([AS_VOLUME]) + none_refused + empty
+    yield "image", bytes([AS_IMAGE_AND_VOLUME]) + none_refused + empty
+    yield "expression", bytes([AS_EXPRESSION]) + none_refused + b"\x06\x08"
 
 
 def main() -> None:
@@ -70,11 +60,9 @@ def main() -> None:
     for kind, made in ("seeds", seeds()), ("few", few()):
         folder = given.folder / kind
         folder.mkdir(parents=True, exist_ok=True)
-        count = 0
-        for seed in made:
-            (folder / seed.name).write_bytes(seed.data)
-            count += 1
-        print(f"{count} inputs in {folder.name}")
+        for name, data in made:
+            (folder / name).write_bytes(data)
+        print(f"{len([*folder.iterdir()])} inputs in {folder.name}")
 
 
 if __name__ == "__main__":

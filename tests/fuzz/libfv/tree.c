@@ -2,15 +2,9 @@
 /* Checks fv_volume_tree: each row lies in the row of its parent, and agrees with its header. The files of the volume
  * are cells. A nested volume has the same rows if its bytes are read on their own. The image has the same rows at other
  * offsets. */
-#include "coverage.h"
-#include "results.h"
+#include "format.h"
 #include "rows.h"
 #include "volume.h"
-
-static bool has_no_reserved(const fv_node *node)
-{
-    return !node->reserved[0] && !node->reserved[1] && !node->reserved[2];
-}
 
 /* Checks that a row of this kind may hold its content, and that its parent may hold the row. */
 static bool is_held(const fv_node *parent, const fv_node *node)
@@ -20,12 +14,11 @@ static bool is_held(const fv_node *parent, const fv_node *node)
         return node->content == FV_CONTENT_FILES && parent->content == FV_CONTENT_VOLUME && !node->index &&
                node->offset == parent->offset && node->length == parent->length;
     case FV_NODE_FILE:
-        return parent->kind == FV_NODE_VOLUME && (node->header_length == 24 || node->header_length == 32) &&
+        return parent->kind == FV_NODE_VOLUME &&
                (node->content == FV_CONTENT_BYTES || node->content == FV_CONTENT_SECTIONS);
     default:
         return node->kind == FV_NODE_SECTION && parent->content == FV_CONTENT_SECTIONS &&
-               (node->header_length == 4 || node->header_length == 8) && node->content >= FV_CONTENT_BYTES &&
-               node->content <= FV_CONTENT_VOLUME;
+               node->content >= FV_CONTENT_BYTES && node->content <= FV_CONTENT_VOLUME;
     }
 }
 
@@ -47,10 +40,16 @@ static void check_part_row(const struct volume *v, const fv_node *node, size_t r
 {
     static const fv_guid no_name;
     const uint8_t *header = v->bytes + node->offset - node->header_length;
-    bool is_file = node->kind == FV_NODE_FILE;
-    CHECK(node->efi_type == header[is_file ? 18 : 3] && !node->file_system, "tree: the type of number %lu", row);
+    bool is_file = node->kind == FV_NODE_FILE, is_extended = !is_file && number_at(header, 3) == 0xFFFFFF;
+    bool is_large = is_file && header[ATTRIBUTES] & LARGE;
+    uint64_t size = is_file ? file_size(header) : is_extended ? number_at(header + 4, 4) : number_at(header, 3);
+    uint32_t header_length = is_file ? (is_large ? LARGE_HEAD : HEAD) : is_extended ? 8 : 4;
+    CHECK(node->header_length == header_length && node->length == size - header_length, "tree: the size of number %lu",
+          row);
+    CHECK(node->efi_type == header[is_file ? KIND : SECTION_KIND] && !node->file_system, "tree: the type of number %lu",
+          row);
     CHECK(!memcmp(&node->guid, is_file ? header : no_name.bytes, 16), "tree: the name of number %lu", row);
-    CHECK(node->attributes == (is_file ? header[19] & ~1u : 0), "tree: the attributes of number %lu", row);
+    CHECK(node->attributes == (is_file ? header[ATTRIBUTES] & ~1u : 0), "tree: the attributes of number %lu", row);
 }
 
 /* Checks that each row lies in the row of its parent, after the preceding row with the same parent. */
@@ -59,7 +58,8 @@ static void check_nodes(const struct volume *v, const fv_node *nodes, size_t cou
     static uint64_t held[MOST_NODES], ends[MOST_NODES];
     const fv_node *top = nodes;
     CHECK(top->kind == FV_NODE_VOLUME && top->content == FV_CONTENT_FILES && top->parent == FV_NO_PARENT &&
-              !top->depth && !top->index && !top->offset && top->length == v->len && has_no_reserved(top),
+              !top->depth && !top->index && !top->offset && top->length == v->len &&
+              is_all(top->reserved, sizeof top->reserved, 0),
           "tree: the row of the volume");
     check_volume_row(v, top, 0);
     held[0] = ends[0] = 0;
@@ -67,7 +67,8 @@ static void check_nodes(const struct volume *v, const fv_node *nodes, size_t cou
         const fv_node *node = nodes + i;
         CHECK(node->parent < i, "tree: number %lu has parent %lu", i, node->parent);
         const fv_node *parent = nodes + node->parent;
-        CHECK(node->depth == parent->depth + 1 && node->depth <= 27 && has_no_reserved(node), "tree: number %lu", i);
+        CHECK(node->depth == parent->depth + 1 && node->depth <= 27 && is_all(node->reserved, sizeof node->reserved, 0),
+              "tree: number %lu", i);
         CHECK(node->index == held[node->parent]++ && is_held(parent, node), "tree: number %lu", i);
         uint64_t before = node->kind == FV_NODE_VOLUME ? 0 : node->header_length;
         CHECK(node->offset >= parent->offset + ends[node->parent] + before &&
@@ -90,8 +91,8 @@ static void check_files_are_cells(const struct volume *v, const fv_node *nodes, 
     for (size_t i = 1; v->cells && i < count; i++) {
         const fv_node *node = nodes + i;
         if (node->depth != 1) continue;
-        while (at < v->cell_count && !(v->cells[at].kind == FV_CELL_FILE &&
-                                       v->cells[at].offset + v->cells[at].header_length == node->offset))
+        while (at < v->cell_count &&
+               !(v->cells[at].kind == FV_CELL_FILE && v->cells[at].offset + v->cells[at].header_length == node->offset))
             at++;
         CHECK(at < v->cell_count, "tree: number %lu is no cell", i);
         const fv_cell *cell = v->cells + at++;
@@ -102,12 +103,15 @@ static void check_files_are_cells(const struct volume *v, const fv_node *nodes, 
     }
 }
 
-/* Checks that the first nested volumes have the same rows as on their own. */
+/* The largest number of nested volumes that are read on their own. */
+#define MOST_NESTED 20u
+
+/* Checks that the nested volumes, or the first of many, have the same rows as on their own. */
 static void check_volumes_of_tree(const struct volume *v, const fv_node *nodes, size_t count)
 {
     static fv_node own[MOST_NODES];
     unsigned nested = 0;
-    for (size_t i = 1; i < count && nested < 3; i++) {
+    for (size_t i = 1; i < count && nested < MOST_NESTED; i++) {
         const fv_node *node = nodes + i;
         if (node->kind != FV_NODE_VOLUME) continue;
         nested++;
@@ -149,26 +153,18 @@ ROWS_CALL(call, fv_volume_tree)
 void try_tree(struct volume *v)
 {
     static fv_node nodes[MOST_NODES];
-    const struct rows rows = {"tree", call, sizeof *nodes, 8, v->bytes, v->len};
+    const struct rows rows = {"tree", call, sizeof *nodes, 8, MOST_NODES, v->bytes, v->len, v->parameters, 2};
     size_t count;
     fv_fault fault;
-    fv_result result = count_rows(&rows, &count, &fault);
-    bool is_read = !result && count < MOST_NODES;
-    if (result) {
-        check_result("tree", result, &fault, FV_FAULT_DEPTH, v->len);
-        CHECK(result == v->unread && is_same_fault(&fault, &v->fault), "tree: %u, normalise: %u", result, v->result);
-    } else {
-        CHECK(!v->unread && count, "tree: %lu rows, normalise: %u", count, v->result);
-        v->node_count = count;
-    }
-    if (is_read) {
-        read_rows(&rows, count, v->parameters[ROW_CHOICE] & 1, nodes);
-        v->nodes = nodes;
-        check_nodes(v, nodes, count);
-        check_files_are_cells(v, nodes, count);
-        check_volumes_of_tree(v, nodes, count);
-        if (v->image) v->image_nodes = check_tree_of_image(v, nodes, count);
-    }
-    fv_fault *wanted = FAULT_OR_NULL(v->parameters, &fault);
-    refuse_rows(&rows, count, is_read && v->parameters[REFUSED + 2] & 1, result, v->parameters[REFUSED + 2], wanted);
+    fv_result result = try_rows(&rows, nodes, &count, &fault);
+    check_agrees("tree", v, result, &fault, v->unread, FV_FAULT_DEPTH);
+    if (result) return;
+    v->node_count = count;
+    CHECK(count, "tree: no row");
+    if (count > MOST_NODES) return;
+    v->nodes = nodes;
+    check_nodes(v, nodes, count);
+    check_files_are_cells(v, nodes, count);
+    check_volumes_of_tree(v, nodes, count);
+    if (v->image) v->image_nodes = check_tree_of_image(v, nodes, count);
 }

@@ -2,15 +2,9 @@
 /* Checks fv_volume_unfix. The output has as many bytes as the input. No file is fixed in it. The output differs from
  * the input only in the two bytes of each mark, so a volume without marks stays as it is. The fault is a fault of the
  * header or of the cells, but never that a file is fixed. */
-#include "coverage.h"
-#include "heap.h"
-#include "results.h"
-#include "rooms.h"
+#include "format.h"
 #include "rows.h"
 #include "volume.h"
-
-/* The offsets of two fields in a file header, and the bit of the attributes that marks a file as fixed. */
-enum { HEADER_SUM = 16, ATTRIBUTES = 19, FIXED = 4 };
 
 static uint8_t unfixed[MOST_BUFFER];
 
@@ -32,7 +26,7 @@ static void check_marks(const struct volume *v)
         if (cells[i].kind != FV_CELL_FILE) continue;
         CHECK(!(cells[i].attributes & FIXED), "unfix: the file at %lu is fixed", cells[i].offset);
         if (!(header[ATTRIBUTES] & FIXED)) continue;
-        header[HEADER_SUM] = (uint8_t)(header[HEADER_SUM] + FIXED);
+        header[HEAD_SUM] = (uint8_t)(header[HEAD_SUM] + FIXED);
         header[ATTRIBUTES] = (uint8_t)(header[ATTRIBUTES] - FIXED);
         marks++;
     }
@@ -56,15 +50,6 @@ static void check_others(const struct volume *v)
         CHECK(result == v->result && is_same_fault(&fault, &v->fault), "unfix: normalise is %u, not %u", result,
               v->result);
     }
-}
-
-/* Checks that the input is not accepted as a buffer. main.c detects a change of the input. */
-static void try_in_place(const struct volume *v)
-{
-    if (!v->len) return;
-    fv_fault fault = unset_fault;
-    fv_result result = fv_volume_unfix(v->bytes, v->len, (uint8_t *)v->bytes, v->len, &fault);
-    check_bad_argument("unfix", result, &fault);
 }
 
 /* Checks that a second call changes nothing. */
@@ -93,21 +78,23 @@ static void check_fault(const struct volume *v, fv_result result, const fv_fault
               "unfix: %u at %lu, before the fixed file at %lu", result, fault->offset, of_cells.offset);
 }
 
+COPY_CALL(unfix, fv_volume_unfix)
+
 void try_unfix(const struct volume *v)
 {
-    struct copy copy = {.name = "unfix", .call = fv_volume_unfix, .bytes = v->bytes, .len = v->len};
-    refuse_allocation(0); /* no memory is asked for */
-    make_copy(&copy, unfixed);
-    CHECK(!end_refusal(), "unfix has asked for memory");
-    check_result("unfix", copy.result, &copy.fault, FV_FAULT_FREE_SPACE, v->len);
-    saw(SEEN_UNFIX, 10, copy.result, copy.fault.offset & 7);
-    if (copy.result) {
-        check_fault(v, copy.result, &copy.fault);
-    } else {
-        check_marks(v);
-        check_twice(v);
-        check_others(v);
+    const struct rows rows = {"unfix", unfix, 1, 1, sizeof unfixed, v->bytes, v->len, v->parameters, 0};
+    unsigned long before = allocations;
+    size_t count;
+    fv_fault fault;
+    fv_result result = try_rows(&rows, unfixed, &count, &fault);
+    CHECK(allocations == before, "unfix has asked for memory");
+    check_result("unfix", result, &fault, FV_FAULT_FREE_SPACE, v->len);
+    saw(SEEN_UNFIX, 10, result, fault.offset & 7);
+    if (result) {
+        check_fault(v, result, &fault);
+        return;
     }
-    try_rooms(&copy, v->parameters);
-    try_in_place(v);
+    check_marks(v);
+    check_twice(v);
+    check_others(v);
 }

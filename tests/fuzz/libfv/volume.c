@@ -2,14 +2,34 @@
 /* Checks the calls that take a volume. They agree about its fault. The image has the meaning and the digest of the
  * volume, and is its own image. */
 #include "volume.h"
-#include "coverage.h"
-#include "digest.h"
-#include "heap.h"
-#include "results.h"
-#include "rooms.h"
+#include "format.h"
 #include "rows.h"
 
 static uint8_t image[MOST_BUFFER];
+
+void check_agrees(const char *call, const struct volume *v, fv_result result, const fv_fault *fault, fv_result wanted,
+                  fv_result most)
+{
+    check_result(call, result, fault, most, v->len);
+    CHECK(result == wanted, "%s: %u, normalise: %u", call, result, v->result);
+    CHECK(!result || is_same_fault(fault, &v->fault), "%s and normalise: the places of fault %u", call, result);
+}
+
+/* Returns the header as its bytes have it. */
+static fv_header expected_header(const uint8_t *bytes)
+{
+    size_t length = number_at(bytes + FV_LENGTH_FIELD, 8), ext = number_at(bytes + EXT_HEADER, 2);
+    fv_header header = {
+        .length = length,
+        .first_file = first_cell(bytes, length),
+        .header_length = (uint32_t)number_at(bytes + HEADER_LENGTH, 2),
+        .attributes = (uint32_t)number_at(bytes + FV_ATTRIBUTES, 4),
+        .file_system = memcmp(bytes + FILE_SYSTEM, file_systems[1], 16) ? 2 : 3,
+        .erased_byte = erased_byte(bytes),
+    };
+    if (ext) memcpy(header.name.bytes, bytes + ext, sizeof header.name);
+    return header;
+}
 
 static void try_header(struct volume *v)
 {
@@ -17,7 +37,9 @@ static void try_header(struct volume *v)
     memset(&untouched, UNTOUCHED, sizeof untouched);
     v->header = untouched;
     v->header_fault = unset_fault;
+    unsigned long before = allocations;
     v->header_result = fv_header_read(v->bytes, v->len, &v->header, &v->header_fault);
+    CHECK(allocations == before, "header_read has asked for memory");
     check_result("header_read", v->header_result, &v->header_fault, FV_FAULT_EXT_HEADER, v->len);
     saw(SEEN_HEADER, v->header_result, v->header_fault.depth, 0);
     if (v->header_result) {
@@ -25,25 +47,19 @@ static void try_header(struct volume *v)
         CHECK(v->header_fault.depth == 0, "header_read: depth %u", v->header_fault.depth);
         return;
     }
-    const fv_header *h = &v->header;
-    CHECK(!h->offset && !h->reserved && h->length <= v->len, "the header's lengths");
-    CHECK(h->header_length <= h->first_file && h->first_file <= h->length, "the header's lengths");
-    CHECK(h->file_system == 2 || h->file_system == 3, "the header's file system");
-    CHECK(h->erased_byte == 0 || h->erased_byte == 255, "the header's erased byte");
-    static const fv_guid no_name;
-    size_t ext = (size_t)v->bytes[52] | (size_t)v->bytes[53] << 8;
-    const uint8_t *name = ext ? v->bytes + ext : no_name.bytes;
-    CHECK(!memcmp(&h->name, name, sizeof h->name), "the header's name");
-    CHECK(!memcmp(&h->attributes, v->bytes + 44, 4), "the header's attributes");
+    const fv_header *h = &v->header, expected = expected_header(v->bytes);
+    CHECK(h->header_length <= h->first_file && h->first_file <= h->length && h->length <= v->len, "the lengths");
+    CHECK(!memcmp(h, &expected, sizeof expected), "the header is not that of its bytes");
 }
+
+COPY_CALL(normalise, fv_volume_normalise)
 
 static void try_normalise(struct volume *v)
 {
-    struct copy copy = {.name = "normalise", .call = fv_volume_normalise, .bytes = v->bytes, .len = v->len};
-    make_copy(&copy, image);
-    v->result = copy.result;
-    v->fault = copy.fault;
-    v->image = copy.written;
+    const struct rows rows = {"normalise", normalise, 1, 1, sizeof image, v->bytes, v->len, v->parameters, 0};
+    size_t count;
+    v->result = try_rows(&rows, image, &count, &v->fault);
+    v->image = v->result ? NULL : image;
     check_result("normalise", v->result, &v->fault, FV_FAULT_TOP_ALIGNMENT, v->len);
     saw(SEEN_NORMALISE, v->result, v->fault.depth, v->fault.offset & 7);
     bool is_read = v->result == FV_FAULT_NO_ROOM || v->result == FV_FAULT_TOP_ALIGNMENT;
@@ -51,8 +67,6 @@ static void try_normalise(struct volume *v)
     if (v->header_result)
         CHECK(v->result == v->header_result && is_same_fault(&v->header_fault, &v->fault),
               "header_read: %u, normalise: %u", v->header_result, v->result);
-    try_rooms(&copy, v->parameters);
-    refuse_copy(&copy, v->parameters);
 }
 
 static void try_is_canonical(const struct volume *v)
@@ -61,16 +75,15 @@ static void try_is_canonical(const struct volume *v)
     fv_fault fault = unset_fault;
     fv_result result = fv_volume_is_canonical(v->bytes, v->len, &canonical, &fault);
     check_no_block_is_kept("is_canonical");
-    check_result("is_canonical", result, &fault, FV_FAULT_DEPTH, v->len);
-    CHECK(result == v->unread, "is_canonical: %u, normalise: %u", result, v->result);
-    if (result)
-        CHECK(canonical == UNTOUCHED_32 && is_same_fault(&fault, &v->fault), "is_canonical: another fault");
-    else
-        CHECK(canonical == (v->image && !memcmp(v->bytes, v->image, v->len)), "is_canonical: %u", canonical);
+    check_agrees("is_canonical", v, result, &fault, v->unread, FV_FAULT_DEPTH);
+    uint32_t expected = v->image && !memcmp(v->bytes, v->image, v->len);
+    CHECK(canonical == (result ? UNTOUCHED_32 : expected), "is_canonical: %u", canonical);
     fv_fault *wanted = FAULT_OR_NULL(v->parameters, &fault);
+    uint32_t refused = UNTOUCHED_32;
     refuse_allocation(v->parameters[REFUSED + 1]);
-    fv_result again = fv_volume_is_canonical(v->bytes, v->len, &canonical, wanted);
+    fv_result again = fv_volume_is_canonical(v->bytes, v->len, &refused, wanted);
     check_refusal("is_canonical", again, result, wanted);
+    CHECK(refused == (again ? UNTOUCHED_32 : canonical), "is_canonical: %u without memory", refused);
 }
 
 static void try_digest(struct volume *v)
@@ -81,8 +94,7 @@ static void try_digest(struct volume *v)
     fv_fault fault = unset_fault;
     fv_result result = fv_volume_digest(v->bytes, v->len, &v->digest, &fault);
     check_no_block_is_kept("digest");
-    check_result("digest", result, &fault, FV_FAULT_TOP_ALIGNMENT, v->len);
-    CHECK(result == v->result && is_same_fault(&fault, &v->fault), "digest: %u, normalise: %u", result, v->result);
+    check_agrees("digest", v, result, &fault, v->result, FV_FAULT_TOP_ALIGNMENT);
     if (result) {
         CHECK(!memcmp(&v->digest, &untouched, sizeof untouched), "digest has changed the digest");
     } else {
@@ -90,59 +102,21 @@ static void try_digest(struct volume *v)
         sha256(v->image, v->len, expected);
         CHECK(!memcmp(expected, v->digest.bytes, 32), "digest: not that of the image");
     }
-    fv_sha256 other;
+    fv_sha256 other = untouched;
     fv_fault *wanted = FAULT_OR_NULL(v->parameters, &fault);
     refuse_allocation(v->parameters[REFUSED + 2]);
     fv_result again = fv_volume_digest(v->bytes, v->len, &other, wanted);
     check_refusal("digest", again, result, wanted);
+    CHECK(!memcmp(&other, again ? &untouched : &v->digest, sizeof other), "digest: another without memory");
 }
 
-static void check_same(const uint8_t *first, const uint8_t *second, size_t len, const char *what)
+/* Checks the comparison of a volume with itself, or with its image. */
+static void try_compare(const struct volume *v)
 {
-    fv_comparison found = {77, 77, 77};
-    fv_fault fault = unset_fault;
-    uint8_t *text = new_buffer(FV_DIFFERENCE_SIZE, 1);
-    fv_result result = fv_volume_compare(first, len, second, len, (char *)text, FV_DIFFERENCE_SIZE, &found, &fault);
-    CHECK(result == FV_OK && is_no_fault(&fault), "compare: %s: %u", what, result);
-    CHECK(found.same == 1 && found.text_length == 4 && !found.reserved, "compare: %s", what);
-    CHECK(!memcmp(text, "same", 5), "compare: the text of %s", what);
-    check_written(text, 5, "compare");
-}
-
-static void try_compare_with_itself(const struct volume *v)
-{
-    if (!v->unread) {
-        check_same(v->bytes, v->bytes, v->len, "a volume with itself");
-        check_no_block_is_kept("compare");
-        return;
-    }
-    fv_comparison found, untouched;
-    fv_fault fault = unset_fault;
-    memset(&untouched, UNTOUCHED, sizeof untouched);
-    found = untouched;
-    uint8_t *text = new_buffer(FV_DIFFERENCE_SIZE, 1);
-    fv_result result =
-        fv_volume_compare(v->bytes, v->len, v->bytes, v->len, (char *)text, FV_DIFFERENCE_SIZE, &found, &fault);
-    check_no_block_is_kept("compare");
-    CHECK(result == v->unread && is_same_fault(&fault, &v->fault), "compare: %u, normalise: %u", result, v->result);
-    CHECK(!memcmp(&found, &untouched, sizeof found), "compare has changed what it found");
-    check_untouched(text, "compare");
-}
-
-/* Checks that the input is not accepted as a buffer, and that results must not overlap: nothing is written. main.c
- * detects a change of the input. */
-static void try_bad_arguments(const struct volume *v)
-{
-    uint32_t canonical = UNTOUCHED_32;
-    fv_fault fault = unset_fault;
-    uint8_t *in = (uint8_t *)v->bytes;
-    if (v->len) check_bad_argument("normalise", fv_volume_normalise(in, v->len, in, v->len, &fault), &fault);
-    if (v->len)
-        check_bad_argument("normalise", fv_volume_normalise(in, v->len, in + v->len - 1, 1, &fault), &fault);
-    if (v->len) check_bad_argument("is_canonical", fv_volume_is_canonical(NULL, v->len, &canonical, &fault), &fault);
-    check_bad_argument("is_canonical", fv_volume_is_canonical(in, v->len, NULL, &fault), &fault);
-    check_bad_argument("is_canonical", fv_volume_is_canonical(in, v->len, &fault.result, &fault), &fault);
-    CHECK(canonical == UNTOUCHED_32, "is_canonical has written after a bad argument");
+    struct input volume = {v->bytes, v->len}, its_image = {v->image, v->len};
+    bool is_other = v->image && v->parameters[PAIR] & 1;
+    bool is_same = try_comparison(volume, is_other ? its_image : volume, v->parameters);
+    CHECK(is_same == !v->unread, "compare: a volume with %s", is_other ? "its image" : "itself");
 }
 
 /* Checks that the image is a volume of the same meaning, and its own image. */
@@ -158,8 +132,6 @@ static void try_image_of(const struct volume *v)
     CHECK(!memcmp(v->image, second, v->len), "normalise: the image has another image");
     CHECK(fv_volume_is_canonical(v->image, v->len, &canonical, &fault) == FV_OK && canonical == 1,
           "is_canonical: the image is not canonical");
-    check_same(v->bytes, v->image, v->len, "a volume with its image");
-    check_same(v->image, v->bytes, v->len, "an image with its volume");
     CHECK(fv_volume_digest(v->image, v->len, &digest, &fault) == FV_OK && !memcmp(&digest, &v->digest, sizeof digest),
           "digest: that of the image is another");
     CHECK(fv_header_read(v->image, v->len, &header, &fault) == FV_OK && header.length == v->len &&
@@ -180,7 +152,6 @@ void try_volume(const uint8_t *bytes, size_t len, const uint8_t *parameters)
     try_parts(&volume);
     try_digests(&volume);
     try_unfix(&volume);
-    try_compare_with_itself(&volume);
-    try_bad_arguments(&volume);
+    try_compare(&volume);
     if (volume.image) try_image_of(&volume);
 }

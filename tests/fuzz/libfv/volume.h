@@ -29,6 +29,10 @@ struct volume {
     size_t node_count;          /* the number of rows of each */
 };
 
+/* Checks that a call has the wanted result, at most `most`, and the fault of fv_volume_normalise if it has a fault. */
+void check_agrees(const char *call, const struct volume *v, fv_result result, const fv_fault *fault, fv_result wanted,
+                  fv_result most);
+
 /* Each function compares a call with the results that are known of the volume, and adds its own results. */
 void try_cells(struct volume *volume);
 void try_tree(struct volume *volume);

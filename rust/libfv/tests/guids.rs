@@ -1,8 +1,7 @@
 // SPDX-License-Identifier: BSD-2-Clause-Patent
-//! Compares the text of a `Guid` with `fv_guid_text` and `fv_guid_parse`, and the types of files and
-//! sections with the constants of `fv.h`.
+//! Compares the text of a `Guid` with `fv_guid_text` and `fv_guid_parse`.
 
-use fv::{file_type, section_type, Guid};
+use fv::Guid;
 use libfv_sys as sys;
 use std::os::raw::c_char;
 
@@ -53,41 +52,18 @@ fn texts_of_guids_are_those_of_the_library() {
 fn other_texts_are_rejected_by_both() {
     let text = "8c8ce578-8a3d-4f1c-9935-896185c32dd3";
     let mut tried = vec![
+        text.replace('-', ""),
         format!("{{{text}}}"),
         format!(" {text}"),
         format!("{text} "),
     ];
     tried.extend((0..text.len()).map(|at| text[..at].to_string()));
     for at in 0..text.len() {
-        for other in ["", "-", "g", "é", "F", "00"] {
+        for other in ["", "-", "g", "é", "F", "00", "+", " "] {
             tried.push(format!("{}{other}{}", &text[..at], &text[at + 1..]));
         }
     }
     for text in tried {
         assert_eq!(parsed(&text), text.parse().ok(), "{text}");
     }
-}
-
-#[test]
-fn types_are_those_of_the_header() {
-    let header = include_str!("../../../include/fv.h");
-    let names = include_str!("../../libfv/src/types.rs");
-    let mut count = 0;
-    for line in header.lines().map(str::trim) {
-        for prefix in ["FV_FILE_", "FV_SECTION_"] {
-            let declared = line
-                .strip_prefix(prefix)
-                .and_then(|it| it.split_once(" = "));
-            if let Some((name, _)) = declared {
-                assert!(
-                    names.contains(&format!("    {name} = {prefix}{name},")),
-                    "{name}"
-                );
-                count += 1;
-            }
-        }
-    }
-    assert_eq!(count, 31);
-    assert_eq!((file_type::DRIVER, file_type::FFS_PAD), (0x07, 0xf0));
-    assert_eq!((section_type::PE32, section_type::MM_DEPEX), (0x10, 0x1c));
 }

@@ -1,0 +1,111 @@
+/* SPDX-License-Identifier: BSD-2-Clause-Patent */
+/* Checks results that were worked out by hand, for the volume of calls.h: the rows of its tree, its parts and digests,
+ * and a fault. Also checks the text of a GUID, and the text of each result. (The checks of tests/fuzz/libfv compare
+ * each field of each structure with the bytes of an input.) */
+#include "calls.h"
+
+enum { ATTRIBUTES = 0x0004feff };
+
+/* Begins a step: the buffer and the results have a value that no call leaves. */
+static void begin(const char *step)
+{
+    snprintf(trying, sizeof trying, "%s", step);
+    memset(&buffer, FILLED, sizeof buffer);
+    *count = *length = 9;
+}
+
+/* The rows of the volume: the volume itself, its file and the five sections of the file. */
+static const fv_node nodes[7] = {
+    {0, LENGTH, FV_NO_PARENT, 0, 0, FV_NODE_VOLUME, FV_CONTENT_FILES, 0, ATTRIBUTES, 72, {{0}}, 2, {0}},
+    {DATA_AT, DATA_LEN, 0, 0, 1, FV_NODE_FILE, FV_CONTENT_SECTIONS, 2, 0x40, 24, {NAME_BYTES}, 0, {0}},
+    {DATA_AT + 8, 6, 1, 0, 2, FV_NODE_SECTION, FV_CONTENT_BYTES, 0x14, 0, 8, {{0}}, 0, {0}},
+    {DATA_AT + 20, 16, 1, 1, 2, FV_NODE_SECTION, FV_CONTENT_SECTIONS, 0x03, 0, 4, {{0}}, 0, {0}},
+    {DATA_AT + 24, 5, 3, 0, 3, FV_NODE_SECTION, FV_CONTENT_BYTES, 0x19, 0, 4, {{0}}, 0, {0}},
+    {DATA_AT + 36, 0, 3, 1, 3, FV_NODE_SECTION, FV_CONTENT_SECTIONS, 0x03, 0, 4, {{0}}, 0, {0}},
+    {DATA_AT + 40, 3, 1, 2, 2, FV_NODE_SECTION, FV_CONTENT_BYTES, 0x19, 0, 4, {{0}}, 0, {0}}};
+
+/* The first bytes of the digests of these rows, as sha256sum prints them. Two rows have no digest. */
+static const uint8_t digests[7][4] = {
+    [1] = {0xdb, 0x77, 0xfb, 0xa8}, /* the 44 bytes of data */
+    [2] = {0xb8, 0x06, 0x4f, 0x50}, /* 07 00 76 00 31 00 */
+    [4] = {0xe4, 0xdc, 0x78, 0x1c}, /* a1 a2 a3 a4 a5 */
+    [6] = {0x0d, 0xe8, 0x0e, 0x00}  /* b1 b2 b3 */
+};
+
+/* Checks the tree, the digests and the parts. The volume is its own image. */
+static void try_tree(void)
+{
+    make(9);
+    begin("a tree");
+    EXPECT(fv_volume_tree(volume, LENGTH, buffer.nodes, 7, count, fault) == FV_OK && *count == 7);
+    EXPECT(!memcmp(buffer.nodes, nodes, sizeof nodes));
+    begin("digests");
+    EXPECT(fv_volume_tree_digests(volume, LENGTH, buffer.digests, 7, count, fault) == FV_OK && *count == 7);
+    for (int i = 1; i < 7; i++) EXPECT(!memcmp(buffer.digests[i].bytes, digests[i], sizeof digests[i]));
+    begin("parts");
+    for (size_t i = 0; i < 7; i++) {
+        EXPECT(fv_volume_extract(volume, LENGTH, i, buffer.bytes, LENGTH, length, fault) == FV_OK);
+        EXPECT(*length == nodes[i].length && !memcmp(buffer.bytes, volume + nodes[i].offset, *length));
+    }
+    EXPECT(fv_volume_extract(volume, LENGTH, 7, buffer.bytes, LENGTH, length, fault) == FV_NOT_FOUND);
+}
+
+/* Checks that a call rejects a volume whose group has a section that does not fit, and changes nothing else. */
+static void expect_fault(fv_result result, uint32_t input)
+{
+    const fv_fault wanted = {DATA_AT + 20, FV_FAULT_SECTION_SIZE, 1, input, 0};
+    EXPECT(result == FV_FAULT_SECTION_SIZE && !memcmp(fault, &wanted, sizeof wanted));
+    EXPECT(*count == 9 && *length == 9 && buffer.bytes[0] == FILLED);
+}
+
+static void try_fault(void)
+{
+    make(40);
+    begin("a section that is too short");
+    expect_fault(fv_volume_is_canonical(volume, LENGTH, number, fault), 0);
+    expect_fault(fv_volume_normalise(volume, LENGTH, buffer.bytes, LENGTH, fault), 0);
+    expect_fault(fv_volume_digest(volume, LENGTH, digest, fault), 0);
+    expect_fault(fv_volume_tree(volume, LENGTH, buffer.nodes, 7, count, fault), 0);
+    expect_fault(fv_volume_tree_digests(volume, LENGTH, buffer.digests, 7, count, fault), 0);
+    expect_fault(fv_volume_extract(volume, LENGTH, 9, buffer.bytes, LENGTH, length, fault), 0);
+    expect_fault(fv_volume_compare(volume, LENGTH, volume, 8, buffer.text, FV_DIFFERENCE_SIZE, found, fault), 0);
+    expect_fault(fv_volume_compare(other, LENGTH, volume, LENGTH, buffer.text, FV_DIFFERENCE_SIZE, found, fault), 1);
+}
+
+static void try_guid(void)
+{
+    begin("the text of a GUID");
+    EXPECT(fv_guid_parse(text_of_guid, FV_GUID_TEXT_SIZE, guid) == FV_OK && !memcmp(guid, name, sizeof name));
+    for (size_t size = 0; size < FV_GUID_TEXT_SIZE; size++)
+        EXPECT(fv_guid_text(guid, buffer.text, size) == FV_BUFFER_TOO_SMALL && buffer.bytes[0] == FILLED);
+    EXPECT(fv_guid_text(guid, buffer.text, FV_GUID_TEXT_SIZE) == FV_OK && !strcmp(buffer.text, text_of_guid));
+}
+
+/* Checks that each result of the header has a sentence of its own, and no other number has a sentence of its own. */
+static void try_texts(void)
+{
+    const char *none = fv_result_text(0x7fffffff);
+    unsigned known = 0;
+    begin("texts");
+    for (fv_result result = 0; result < 0x1000; result++) {
+        const char *it = fv_result_text(result);
+        EXPECT(it && *it);
+        known += strcmp(it, none) != 0;
+    }
+    EXPECT(known == 25 + 4 + 5 + 5);
+    EXPECT(!strcmp(fv_result_text(FV_OK), "done") && !strcmp(fv_result_text(UINT32_MAX), none));
+    EXPECT(strcmp(fv_result_text(FV_FAULT_HOB_NO_END), none) && strcmp(fv_result_text(FV_BAD_ARGUMENT), none));
+    EXPECT(fv_version_number() == FV_VERSION_NUMBER && !strcmp(fv_version(), FV_VERSION));
+    EXPECT(FV_VERSION_NUMBER == (FV_VERSION_MAJOR << 16 | FV_VERSION_MINOR << 8 | FV_VERSION_PATCH));
+}
+
+int main(void)
+{
+    make_both();
+    try_tree();
+    try_fault();
+    try_guid();
+    try_texts();
+    puts("fields: the results are as they were worked out");
+    return 0;
+}

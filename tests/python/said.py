@@ -1,0 +1,239 @@
+# SPDX-License-Identifier: BSD-2-Clause-Patent
+"""Makes the output and the exit status of each command of the program from the results of the package's calls:
+
+    python3 -m tests.python.said FILE..
+
+prints them for each FILE, with digits in place of bytes."""
+
+from __future__ import annotations
+
+import collections
+import functools
+import itertools
+import sys
+import uuid
+from collections.abc import Callable, Iterator, Sequence
+from pathlib import Path
+
+import fv
+from tests.fuzz.pieces import leaf_note
+from tests.python.outcomes import outcome
+
+# An exit status, and the bytes on standard output.
+Said = tuple[int, bytes]
+# The phases of the types of sections with dependency expressions.
+PHASES = {0x13: fv.Phase.DXE, 0x1B: fv.Phase.PEI, 0x1C: fv.Phase.DXE}
+# How many parts of a volume are extracted.
+EXTRACTED = 10
+
+
+def text(lines: list[str]) -> bytes:
+    """Returns lines as the program writes them."""
+    return "".join(f"{line}\n" for line in lines).encode()
+
+
+def fault_text(fault: fv.Fault) -> str:
+    """Returns the text that the program writes for a fault."""
+    return f"fault {fault.number} at {fault.offset}"
+
+
+def caught(make: Callable[[bytes], Said], data: bytes, before: str = "") -> Said:
+    """Returns what a command writes about some data, or the status and the line of its fault."""
+    try:
+        return make(data)
+    except fv.FaultError as error:
+        return 2, text([before + fault_text(error.fault)])
+
+
+def verdict(is_canonical: bool) -> str:
+    """Returns the text that the program writes about an accepted volume."""
+    return "canonical" if is_canonical else "not canonical"
+
+
+def check_all(data: bytes) -> Said:
+    """Makes the output of `check --all`."""
+    lines, worst = [], 0
+    for it in fv.image_check(data):
+        found = fault_text(it.fault) if it.fault else verdict(it.canonical)
+        worst = max(worst, 2 if it.fault else int(not it.canonical))
+        lines.append(f"volume at {it.offset} length {it.length} {found}")
+    return worst, text(lines)
+
+
+def check(data: bytes) -> Said:
+    """Makes the output of `check`."""
+    is_canonical = fv.volume_is_canonical(data)
+    return int(not is_canonical), text([*pad_notes(data), *expression_notes(data), verdict(is_canonical)])
+
+
+def pad_notes(data: bytes) -> Iterator[str]:
+    """Yields the notes of `check` about pads that hold bytes."""
+    erased = fv.header_read(data).erased_byte
+    for it in fv.volume_cells(data):
+        if it.kind is fv.CellKind.PAD and it.header_length:
+            body = data[it.offset + it.header_length : it.offset + it.length]
+            if held := len(body) - body.count(erased):
+                yield f"note pad at {it.offset} holds {held} bytes"
+
+
+def expression_notes(data: bytes) -> Iterator[str]:
+    """Yields the notes of `check` about dependency expressions that are rejected."""
+    for _, node, file in outer(fv.volume_tree(data)):
+        if node.kind is fv.NodeKind.SECTION and node.efi_type in PHASES:
+            body = data[node.offset : node.offset + node.length]
+            fault = outcome(fv.depex_evaluate, body, PHASES[node.efi_type])
+            if isinstance(fault, fv.Fault):
+                yield f"note depex in {file.guid} {fault_text(fault)}"
+
+
+def scan(data: bytes) -> Said:
+    """Makes the output of `scan`."""
+    return 0, text([f"volume at {it.offset} length {it.length}" for it in fv.image_scan(data)])
+
+
+def cells(data: bytes) -> Said:
+    """Makes the output of `cells`."""
+    lines = [f"header at 0 length {fv.header_read(data).first_file}"]
+    filler, sums = 0, collections.Counter[str]()
+    for it in fv.volume_cells(data):
+        length = (it.length + 7) // 8 * 8 if it.header_length else it.length
+        line = f"{it.kind.name.lower()} at {it.offset} length {length}"
+        if it.kind is fv.CellKind.FILE and it.header_length:
+            line += f" {it.name} type {it.efi_type:02x} attributes {it.attributes:02x}"
+            line += f" data at {it.offset + it.header_length} length {it.length - it.header_length}"
+        lines.append(line)
+        filler += length - it.length
+        sums["DELETED" if it.kind is fv.CellKind.UNFINISHED else it.kind.name] += it.length
+    totals = f"files {sums['FILE']} pads {sums['PAD']} deleted {sums['DELETED']} filler {filler} free {sums['FREE']}"
+    lines.append(f"sums {totals}")
+    return 0, text(lines)
+
+
+def volume_name(volume: bytes) -> str:
+    """Returns the text that `list` writes about the extended header of a volume, if it has one."""
+    at = int.from_bytes(volume[52:54], "little")
+    return f" name {uuid.UUID(bytes_le=volume[at : at + 16])}" if at else ""
+
+
+def node_line(node: fv.Node, held: int, body: bytes) -> str:
+    """Returns the line of `list` for a row that holds this many rows and these bytes."""
+    if node.kind is fv.NodeKind.VOLUME:
+        line = f"volume ffs{node.file_system} length {node.length} files {held}{volume_name(body)}"
+    elif node.kind is fv.NodeKind.FILE:
+        form = f"type {node.efi_type:02x} attributes {node.attributes:02x}"
+        line = f"file {node.index} {node.guid} {form} data {node.length}"
+    else:
+        form = "extended" if node.header_length == 8 else "short"
+        note = leaf_note(node.efi_type or 0, body) if node.content is fv.Content.BYTES else ""
+        line = f"section {node.index} type {node.efi_type:02x} {form} body {node.length}{note}"
+    return "  " * node.depth + line
+
+
+def listed(data: bytes, has_sums: bool = False) -> Said:
+    """Makes the output of `list`, or of `list --sums`."""
+    volume = front(data)
+    nodes = fv.volume_tree(volume)
+    sums = fv.volume_tree_digests(volume) if has_sums else itertools.repeat(None)
+    held = collections.Counter(node.parent for node in nodes)
+    lines = []
+    for (row, node), digest in zip(enumerate(nodes), sums):
+        line = node_line(node, held[row], volume[node.offset : node.offset + node.length])
+        lines.append(line + (f" sha256 {digest.hex()}" if digest else ""))
+    return 0, text(lines)
+
+
+def hobs(data: bytes) -> Said:
+    """Makes the output of `hobs`."""
+    found = fv.hobs_read(data)
+    lines = [f"hob {it.hob_type:04x} length {it.hob_length}" for it in found.blocks]
+    return 0, text([*lines, f"consumed {found.length}"])
+
+
+def compare(first: bytes, second: bytes) -> Said:
+    """Makes the output of `compare`."""
+    found = outcome(fv.volume_compare, first, second)
+    if isinstance(found, fv.Fault):
+        return 2, text([f"{'second' if found.input else 'first'} {fault_text(found)}"])
+    return int(found is not None), text([found or "same"])
+
+
+def extract(row: int, data: bytes) -> Said:
+    """Makes the output of `extract` for a row of the tree."""
+    return 0, fv.volume_extract(data, row)
+
+
+def front(data: bytes) -> bytes:
+    """Returns the volume with which some data begin, or all of the data if they do not begin with a volume."""
+    header = outcome(fv.header_read, data)
+    return data if isinstance(header, fv.Fault) else data[: header.length]
+
+
+def outer(nodes: Sequence[fv.Node]) -> Iterator[tuple[int, fv.Node, fv.Node]]:
+    """Yields the files of a volume and their sections, without the contents of nested volumes: the number of each row,
+    the row, and the row of its file."""
+    inside, file = None, nodes[0]
+    for row, node in enumerate(nodes):
+        if inside is not None and node.depth > inside:
+            continue
+        is_nested = node.kind is fv.NodeKind.VOLUME and node.depth > 0
+        inside = node.depth if is_nested else None
+        if node.kind is fv.NodeKind.FILE:
+            file = node
+        if node.kind is not fv.NodeKind.VOLUME:
+            yield row, node, file
+
+
+def parts(nodes: Sequence[fv.Node]) -> Iterator[tuple[int, list[str]]]:
+    """Yields the rows that `extract` can name, with its arguments."""
+    counts = collections.Counter[tuple[uuid.UUID | None, int | None]]()
+    for row, node, file in outer(nodes):
+        words = ["--name", str(file.guid)]
+        if node.kind is fv.NodeKind.SECTION:
+            counts[file.guid, node.efi_type] += 1
+            words += ["--section", f"{node.efi_type:02x}", "--instance", str(counts[file.guid, node.efi_type])]
+        yield row, words
+
+
+# The commands with one input, except `extract`.
+COMMANDS: dict[str, Callable[[bytes], Said]] = {
+    "normalise": lambda data: (0, fv.volume_normalise(data)),
+    "normalise --all": lambda data: (0, fv.image_normalise(data)),
+    "unfix": lambda data: (0, fv.volume_unfix(data)),
+    "check": check,
+    "check --all": check_all,
+    "scan": scan,
+    "cells": cells,
+    "hobs": hobs,
+    "list": listed,
+    "list --sums": lambda data: listed(data, True),
+}
+# The commands that write bytes, or digits if they have the option --hex.
+OF_BYTES = ("normalise", "unfix", "extract")
+
+
+def made_by(command: str, data: bytes) -> Said:
+    """Returns what a command of COMMANDS writes about some data."""
+    return caught(COMMANDS[command], data, "hob " if command == "hobs" else "")
+
+
+def outputs(data: bytes) -> Iterator[tuple[list[str], Said]]:
+    """Yields what each command with one input writes about some data: its words, and the output."""
+    for command in COMMANDS:
+        yield command.split(), made_by(command, data)
+    volume = front(data)
+    nodes = outcome(fv.volume_tree, volume)
+    named: Iterator[tuple[int, list[str]]]
+    named = iter([(0, ["--name", str(uuid.UUID(int=0))])]) if isinstance(nodes, fv.Fault) else parts(nodes)
+    for row, words in itertools.islice(named, EXTRACTED):
+        yield ["extract", *words], caught(functools.partial(extract, row), volume)
+
+
+def main() -> None:
+    """Prints the outputs of all commands for files."""
+    for path in sys.argv[1:]:
+        for words, (status, output) in outputs(Path(path).read_bytes()):
+            print(path, *words, status, output.hex() if words[0] in OF_BYTES else output.decode())
+
+
+if __name__ == "__main__":
+    main()

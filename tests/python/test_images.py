@@ -1,0 +1,321 @@
+# SPDX-License-Identifier: BSD-2-Clause-Patent
+"""`fv.images` over made images: volumes at every level, compressed sections, volumes with fixed files, volumes at odd
+places, bytes that are not read, and the limits of reading."""
+
+from __future__ import annotations
+
+import lzma
+import struct
+import sys
+import unittest
+import unittest.mock
+import uuid
+from collections.abc import Iterator
+
+import fv
+from fv import images
+from fv.limits import Full, Limits
+from fv.names import Names
+from tests import making as made
+from tests.frame import needs_library
+
+try:
+    import brotli  # type: ignore[import]
+except ImportError:
+    brotli = None
+
+ALPHA, FIXED = made.guid(1), made.file(made.guid(4), made.noise("d", 777), attributes=made.FIXED)
+
+
+def parts_of(content: images.Content) -> Iterator[images.Part]:
+    """Yields the volumes, and then the files at every level with their sections."""
+    yield from content.volumes
+    for _, file in images.files_in(content):
+        yield file
+        yield from images.every_leaf(file.sections)
+
+
+def names_of(data: bytes, limits: Limits = Limits()) -> list[str]:
+    """Returns the readable names of the files in an image."""
+    return [file.name for _, file in images.files_in(images.read(data, limits)) if file.name]
+
+
+def closed_in(data: bytes, limits: Limits = Limits()) -> list[str]:
+    """Returns why sections of an image are not opened."""
+    return [it.closed for it in parts_of(images.read(data, limits)) if isinstance(it, images.Section) and it.closed]
+
+
+def packed_file(data: bytes) -> bytes:
+    """Returns a volume with one file that holds a compression section of type 1."""
+    return made.volume([made.file(made.guid(1), made.section(0x01, data), made.FREEFORM)])
+
+
+def brotli_file(data: bytes, length: int) -> bytes:
+    """Returns a volume with one file that holds a section of Brotli data, whose header says how long the contents
+    are."""
+    packed = made.guided(made.BROTLI, data, fields=struct.pack("<QQ", length, 0))
+    return made.volume([made.file(made.guid(1), packed, made.FREEFORM)])
+
+
+def unread_in(data: bytes) -> list[tuple[str, str]]:
+    """Returns what is not read in an image outside of its volumes and then in its volumes, and why."""
+    image = images.read(data)
+    parts = [*image.unread, *(part for volume in image.every_volume() for part in volume.unread)]
+    assert all(it.data is image.data for it in parts)
+    return [(it.what, it.reason) for it in parts]
+
+
+def changed(data: bytes, at: int, *values: int) -> bytes:
+    """Returns data with other bytes at a place."""
+    return data[:at] + bytes(values) + data[at + len(values) :]
+
+
+@needs_library
+class Images(unittest.TestCase):
+    """What `fv.images` finds in an image, and what it does not read."""
+
+    maxDiff = None
+
+    def test_levels(self) -> None:
+        # Finds the files at every level, each before the files inside it, with its volume.
+        found = list(images.files_in(images.read(made.firmware())))
+        names = ["", "Pei0", "Pei1", "Pei2", "Alpha", "Beta", "Dxe0", "Dxe1", "Dxe2", "Dxe3", "Dxe4", "Own", ""]
+        self.assertEqual([file.name for _, file in found], names)
+        self.assertEqual([volume.length for volume, _ in found], [0x10000] + [0x2000] * 3 + [0x4000] * 7 + [0x1000] * 2)
+        self.assertTrue(all(volume.body[it.offset - volume.offset :][: it.length] == it.body for volume, it in found))
+        self.assertEqual(closed_in(made.firmware()), [f"unknown GUID {made.UNKNOWN}"])
+        self.assertEqual(names_of(made.deep()), ["Core"])
+
+    def test_bytes(self) -> None:
+        # Finds all bytes of an image in a volume or beside the volumes.
+        image = images.read(made.firmware())
+        pieces = sorted([*image.volumes, *image.others], key=lambda it: it.offset)
+        self.assertTrue(b"".join(it.body for it in pieces) == image.data == made.firmware())
+
+    def test_fixed(self) -> None:
+        # Reads a volume with fixed files. Its bytes and the bodies of its files are slices of the image.
+        data = made.flash(made.volume([made.A, FIXED, made.GONE, made.C]))
+        (volume,) = images.read(data).volumes
+        self.assertIsNone(volume.fault)
+        self.assertEqual(len(volume.files), 3)
+        self.assertEqual(volume.body, data[4096 : 4096 + volume.length])
+        self.assertEqual([data[it.offset - it.header_length + 19] for it in volume.fixed], [made.FIXED])
+        free = made.volume([made.A, made.file(made.guid(4), made.noise("d", 777)), made.C])
+        self.assertTrue(volume.is_marked)
+        self.assertTrue(volume.plain != volume.body)
+        self.assertIsNone(fv.volume_compare(volume.plain, free))
+        for it in volume.files:
+            self.assertTrue(it.data is volume.data and data[it.offset :][: it.length] == it.body)
+        many = images.read(made.volume([FIXED], 72 + len(FIXED)) * 5_000).volumes
+        self.assertEqual(len(many), 5_000)
+        self.assertTrue(all(len(it.fixed) == 1 for it in many))
+        self.assertEqual(len({id(it.data) for it in many}), 1)
+        (volume,) = images.read(made.IMAGES["damaged.fd"]()).volumes[:1]
+        self.assertEqual(str(volume.fault), "fault 11 at 4168")
+        self.assertEqual(volume.files, [])
+        self.assertIsNone(volume.guid)
+        (volume,) = images.read(made.IMAGES["fixed-inside.fv"]()).volumes
+        inner = volume.files[0].sections[0].volume
+        self.assertIsNone(volume.fault)
+        self.assertTrue(volume.is_marked and inner and inner.is_marked)
+        self.assertEqual([len(it.fixed) for it in (volume, inner) if it], [0, 2])
+        self.assertTrue(fv.volume_tree(volume.plain) and inner and inner.plain in volume.plain)
+
+    def test_places(self) -> None:
+        # Finds volumes at any byte, also beside volumes at a multiple of 8.
+        found = images.read(bytes(28) + made.volume([made.A]) + made.SMALL).volumes
+        self.assertEqual([it.offset for it in found], [28, 28 + 0x8000])
+        found = images.read(made.volume([made.A]) + bytes(4) + made.SMALL).volumes
+        self.assertEqual([it.offset for it in found], [0, 0x8004])
+        self.assertEqual(images.read(b"_FVH" * 100_000).volumes, [])
+
+    def test_outermost(self) -> None:
+        # Finds the volume after a capsule header, although a volume inside it is at a multiple of 8 of the image.
+        head = uuid.UUID("6dcbd5ed-e82d-4c44-bda1-7194199ad92a").bytes_le + struct.pack("<III", 28, 0, 28 + 0x8000)
+        filler = next(made.pad(bytes(it)) for it in range(8) if not (28 + 72 + 24 + it + -it % 8 + 24 + 4) % 8)
+        image = images.read(head + made.volume([filler, made.NESTED, made.B, made.C]))
+        self.assertEqual([it.offset for it in image.volumes], [28])
+        self.assertEqual([file.name for _, file in images.files_in(image)], ["", "Alpha", "Beta", "Beta", ""])
+        unread = [(it.what, it.is_gap, it.offset, it.length) for it in image.unread]
+        self.assertEqual(unread, [("capsule header", True, 0, 28)])
+
+    def test_headers(self) -> None:
+        # Reports each volume that is not read: beside a volume, in a pad, a raw file, a section or a rejected volume.
+        other = made.volume([made.A])
+        one = changed(other, 50, other[50] ^ 1)
+        ffs1 = uuid.UUID("7a9354d9-0468-444a-81ce-0bf617d890df").bytes_le
+        store = uuid.UUID("fff12b8d-7696-4c8b-a985-2747075b4f50").bytes_le
+        for data, what, reason in (
+            (one, "volume", "fault 6 at 32768"),
+            (changed(other, 55, 1), "volume of revision 1", "fault 4 at 32823"),
+            (changed(other, 16, *ffs1), "FFS1 volume", "fault 3 at 32784"),
+            (changed(other, 16, *store), "variable store", "fault 3 at 32784"),
+            (other[:0x4000], "volume", "fault 1 at 49152"),
+        ):
+            gap, header = unread_in(made.volume([made.B]) + data)
+            self.assertEqual((gap, header[0]), (("", "it is in no volume"), what))
+            self.assertTrue(header[1].startswith(reason), header)
+        inner = made.volume([made.A], 0x2000)
+        unread = "it is in bytes that are not read as volumes"
+        for holder in (
+            made.file(made.guid(6), inner),
+            made.file(made.guid(6), made.section(made.RAW, inner), made.FREEFORM),
+            made.file(made.guid(6), made.section(made.VOLUME, inner + b"\xff"), made.VOLUME_IMAGE),
+        ):
+            self.assertEqual(unread_in(made.volume([made.B, holder])), [("volume", unread)])
+        held = [("pad", "a pad holds bytes"), ("volume", unread)]
+        self.assertEqual(unread_in(made.volume([made.B, made.pad(bytes(8) + inner)])), held)
+        wrong = made.file(made.guid(4), made.noise("d", 777))
+        found = unread_in(made.volume([changed(wrong, 16, wrong[16] ^ 1), made.NESTED]))
+        self.assertEqual(found, [("volume", "it is in a volume that is rejected")])
+        for content, count in ((made.section(made.RAW, inner), 1), (made.section(made.VOLUME, inner), 0)):
+            packed = made.guided(made.CRC32, made.stream(made.ui("Own"), content))
+            (volume,) = images.read(made.volume([made.file(made.guid(1), packed, made.FREEFORM)])).volumes
+            opened = volume.files[0].sections[0].opened
+            parts = opened and [(it.what, it.reason) for it in opened.unread]
+            self.assertEqual((parts, volume.unread), ([("volume", unread)] * count, []))
+
+    def test_remains(self) -> None:
+        # Reports pads that hold bytes, and files that are deleted, unfinished or superseded.
+        self.assertEqual(unread_in(made.volume([made.A, made.pad(bytes(9)), made.B, made.pad(b"\xff" * 9)])), [])
+        table = unread_in(made.volume([made.pad(b"_FIT_   " + bytes(9))]))
+        self.assertEqual(table, [("pad", "a pad holds bytes: firmware interface table")])
+        (part,) = images.read(made.flash(made.volume([made.A, made.GONE, made.B]))).volumes[0].unread
+        noise = made.noise("d", 777)
+        self.assertEqual((part.what, part.guid, part.body[24:801]), ("deleted file", made.guid(4), noise))
+        begun = made.file(made.guid(4), made.noise("d", 777), state=0x03)
+        self.assertEqual([it[0] for it in unread_in(made.volume([made.A, begun, made.B]))], ["unfinished file"])
+        before = made.file(made.guid(2), made.noise("b", 50), state=0x0F)
+        self.assertEqual([it[0] for it in unread_in(made.volume([made.A, before, made.B]))], ["superseded file"])
+        marked = made.file(made.guid(2), made.noise("b", 50), attributes=made.FIXED, state=0x0F)
+        inner = made.section(made.VOLUME, made.volume([marked, made.B], 0x1000))
+        nested = made.file(made.guid(6), inner, made.VOLUME_IMAGE)
+        for data in (made.volume([marked, made.B]), made.volume([nested])):
+            volumes = [volume for volume, _ in images.files_in(images.read(data))]
+            self.assertEqual([it.what for it in volumes[-1].unread], ["superseded file"])
+            self.assertIsNone(volumes[-1].fault)
+        filled = made.C[:-1] + b"\1"
+        self.assertEqual(unread_in(made.volume([filled, made.B])), [("filler", "bytes between two files")])
+        named = made.volume([made.B], name=made.guid(9))
+        self.assertEqual((unread_in(named), unread_in(changed(named, 72, *b"hidden"))), ([], []))
+        sections = made.stream(made.section(made.PE32, made.noise("a", 300)), made.ui("Hidden"))
+        found = [("sections", "sections in a file of the unknown type 00")]
+        for kind, data, expected in (
+            (0x00, sections, found),
+            (0x00, made.section(made.RAW, b"") * 5000 + b"more", found),
+            (0x00, sections[:-9], []),
+            (made.RAW_FILE, sections, []),  # as the reset vector of EDK II
+        ):
+            self.assertEqual(unread_in(made.volume([made.file(made.guid(1), data, kind)])), expected)
+        for gap in (bytes(64), b"\xff" * 64):
+            self.assertEqual(unread_in(gap + made.SMALL + gap), [])
+        self.assertEqual(unread_in(b"A" * 64 + made.SMALL), [("", "it is in no volume")])
+        descriptor = b"\xff" * 16 + b"\x5a\xa5\xf0\x0f" + bytes(4076)
+        self.assertEqual(unread_in(descriptor + made.SMALL), [("flash descriptor", "it is in no volume")])
+
+    def test_doubts(self) -> None:
+        # Opens a section whose checksum is wrong or whose data have bytes after their end, and says so.
+        text = made.ui("Text")
+        whole = lzma.compress(text, format=lzma.FORMAT_ALONE)
+        other = "the contents have another length than the header says"
+        for packed, doubt in (
+            (made.guided(made.LZMA, whole), None),
+            (made.guided(made.LZMA, whole + bytes(9)), None),
+            (made.guided(made.LZMA, whole + b"more"), "4 bytes follow the packed data"),
+            (made.checked(text), None),
+            (made.checked(text, 1), "the CRC32 is wrong"),
+            (made.compression(text), None),
+            (made.compression(text, 5), other),
+        ):
+            (file,) = images.read(made.volume([made.file(made.guid(1), packed, made.FREEFORM)])).volumes[0].files
+            opened = file.sections[0].opened
+            self.assertEqual((opened and opened.doubts, file.name), ([doubt] if doubt else [], "Text"))
+
+    def test_inputs(self) -> None:
+        # Reads any buffer, and does not show the bytes of an image in its repr.
+        data = made.firmware()
+        image = images.read(bytearray(data))
+        self.assertTrue(image == images.read(memoryview(data)) == images.read(data))
+        self.assertTrue(len(repr(image)) < 20_000)
+        self.assertEqual(names_of(made.volume([made.driver(made.guid(1), "N" * 300, b"")])), ["N" * 200 + ".."])
+
+    def test_limits(self) -> None:
+        # Does not open a section that exceeds a limit, or does not read the image at all.
+        data = made.firmware()
+        self.assertEqual(names_of(data, Limits(sections=0)), [])
+        for limits, reason in (
+            (Limits(sections=0), "more than 0 sections"),
+            (Limits(depth=0), "too deep"),
+            (Limits(section=1000), "LZMA: more than 1000 bytes"),
+            (Limits(total=len(data) + 100), f"more than {len(data) + 100} bytes"),
+            (Limits(parts=20), "more than 20 parts"),
+        ):
+            self.assertEqual(closed_in(data, limits)[0], reason)
+        heads = made.SMALL[:72] * 20
+        for data, limits in (
+            (data, Limits(total=len(data) - 1)),
+            (data, Limits(parts=2)),
+            (heads, Limits(signatures=19)),
+            (heads, Limits(header_bytes=72 * 19)),
+        ):
+            self.assertRaises(Full, images.read, data, limits)
+
+    def test_waste(self) -> None:
+        # Counts what is unpacked but not kept: sections that are cut short, and sections with too many parts.
+        cut = made.guided(made.LZMA, lzma.compress(bytes(5 << 20), format=lzma.FORMAT_ALONE)[:700])
+        full = made.compressed(made.section(made.RAW, b"") * 60)
+        for packed, limits, count, reason in (
+            (cut, Limits(wasted=10 << 20), 3, "LZMA: the data are cut short"),
+            (full, Limits(parts=60), 37, "more than 60 parts"),
+        ):
+            data = made.volume([made.file(made.guid(1), made.stream(*[packed] * 40), made.FREEFORM)])
+            no_more = f"more than {limits.wasted} bytes that are not kept"
+            found = closed_in(data, limits)
+            self.assertEqual(found, [reason] * count + [no_more] * (40 - count), found)
+
+    def test_tiano(self) -> None:
+        # Opens the compression of the UEFI specification and of Tiano, up to the limit for Python's own work. Data that
+        # have neither are not opened.
+        driver = made.stream(made.section(made.PE32, bytes(5000)), made.section(made.UI, "Old\0".encode("utf-16-le")))
+        head = struct.pack("<IB", len(driver), 1)
+        for width in (4, 5):
+            packed = made.packed_by_tiano(driver, width)
+            self.assertEqual(names_of(packed_file(head + packed)), ["Old"])
+            guided = made.guided(made.TIANO, packed)
+            found = names_of(made.volume([made.file(made.guid(1), guided, made.FREEFORM)]))
+            self.assertEqual(found, ["Old"] * (width == 5))
+            slow = closed_in(packed_file(head + packed), Limits(slow=4000))
+            self.assertEqual(slow, ["more than 4000 symbols of slow compression"])
+            for wrong in (packed[:7], packed[:-20], packed[:8] + made.noise("tiano", 300)):
+                self.assertTrue(closed_in(packed_file(head + wrong))[0].startswith("compression: "))
+        self.assertEqual(closed_in(packed_file(b"\0\0\0\0")), ["no compression header"])
+        self.assertEqual(closed_in(packed_file(b"\0\0\0\0\2")), ["compression of the unknown type 2"])
+
+    def test_no_brotli(self) -> None:
+        # Says that a section of Brotli data needs Python's module for it.
+        with unittest.mock.patch.dict(sys.modules, {"brotli": None}):
+            self.assertEqual(closed_in(brotli_file(b"data", 4)), ["brotli is not installed"])
+
+    @unittest.skipUnless(brotli, "no module brotli (Debian: python3-brotli)")
+    def test_brotli(self) -> None:
+        # Opens Brotli.
+        text = made.section(made.UI, "Br\0".encode("utf-16-le"))
+        packed = brotli.compress(text)
+        self.assertEqual(names_of(brotli_file(packed, len(text))), ["Br"])
+        size = len(text)
+        for data, length in ((packed, size - 1), (packed, size + 1), (packed[:-2], size), (b"\xff" * 9, 9)):
+            self.assertTrue(closed_in(brotli_file(data, length))[0].startswith("Brotli: "), data)
+        bomb = brotli_file(brotli.compress(bytes(1 << 24)), 1 << 24)
+        self.assertEqual(closed_in(bomb, Limits(section=1 << 20)), [f"Brotli: more than {1 << 20} bytes"])
+
+    def test_names(self) -> None:
+        # Shows a dependency expression with the names of its GUIDs.
+        pcd, unknown = uuid.UUID("11b34006-d85b-4d0a-a290-d5a571310ef7").bytes_le, made.guid(1).bytes_le
+        expression = b"\2" + pcd + b"\2" + unknown + b"\3\x08\6"
+        self.assertEqual(Names().depex(expression), f"PUSH gPcdProtocolGuid PUSH {made.guid(1)} AND END")
+        self.assertEqual(Names().depex(b"\2" + pcd[:15]), "PUSH")
+        self.assertEqual(Names().depex(b"\xff"), "")
+
+
+if __name__ == "__main__":
+    unittest.main()

@@ -1,0 +1,70 @@
+# SPDX-License-Identifier: BSD-2-Clause-Patent
+"""The library on the oldest processor: it has no instruction that the first x86-64 processors lack, and it returns the
+same on such a processor, which qemu emulates, as on this one."""
+
+from __future__ import annotations
+
+import os
+import platform
+import re
+import subprocess
+import sys
+import unittest
+
+from tests.checks import ROOT
+from tests.frame import LIBRARY, RoomCase, needs_library, needs_tool
+from tests.python.outcomes import made
+
+# The instructions of SSE3, SSSE3, SSE4, AVX, BMI and so on, in the order of these extensions.
+NEWER = re.compile(
+    r"""addsub|hadd|hsub|lddqu|mov(ddup|shdup|sldup)|cmpxchg16b|pabs|palignr|phadd|phsub|pmaddubsw|pmulhrsw|pshufb|psign
+    |p?blend|dpp[sd]|extractps|insertps|movntdqa|mpsadbw|packusdw|pcmpeqq|pextr[bdq]|phminposuw|pinsr[bdq]
+    |pm(ax|in)(s[bd]|u[dw])|pmov[sz]x|pmul(dq|ld)|ptest|round[ps][sd]|crc32|pcmp[ei]str|pcmpgtq|popcnt|lzcnt|movbe
+    |v|andn$|bextr|bls|bzhi|pdep|pext$|mulx|rorx|s[ah][lr]x|adcx|adox|sha(1|256)|aes|pclmul""",
+    re.VERBOSE,
+)
+# The tests in C that are run on the oldest processor, with the archive in them: their results were worked out by hand.
+NAMES = ("depex", "fields", "guid", "layout", "unfix")
+PROGRAMS = [it for it in NAMES if (ROOT / f"tests/libfv/{it}.c").exists()]
+OLDEST = ("qemu-x86_64-static", "-cpu", "qemu64,-sse3,-cx16")
+# How many of the made inputs are tried, and how long they may be.
+TRIED, MOST = 20, 5000
+
+
+@needs_library
+@unittest.skipUnless(platform.machine() == "x86_64", "this is not an x86-64")
+class Oldest(RoomCase):
+    """The instructions of the library, and its results on such a processor."""
+
+    @needs_tool("objdump", "binutils")
+    def test_instructions(self) -> None:
+        words = ("objdump", "--disassemble", "--no-show-raw-insn", LIBRARY.with_name("libfv.a"))
+        code = subprocess.run(words, stdout=subprocess.PIPE, text=True, check=True).stdout
+        found = re.findall(r"(?m)^ *[0-9a-f]+:\t(?:(?:lock|rep\w*) +)?(\w+)", code)
+        self.assertGreater(len(found), 10_000)
+        self.assertEqual(sorted({it for it in found if NEWER.match(it)}), [])
+
+    @needs_tool(OLDEST[0], "qemu-user-static")
+    def test_outputs(self) -> None:
+        names = [name for name, data in made().items() if len(data) <= MOST][:TRIED]
+        for name in names:
+            (self.room / name).write_bytes(made()[name])
+        words = (sys.executable, "-m", "tests.python.said", *names)
+        wanted, found = self.run_command(*words), self.run_command(*OLDEST, *words)
+        self.assertEqual((wanted.returncode, wanted.stderr, len(wanted.stdout) > 1000), (0, "", True))
+        self.assertEqual((found.returncode, found.stderr, found.stdout == wanted.stdout), (0, "", True))
+
+    @needs_tool(OLDEST[0], "qemu-user-static")
+    @needs_tool(os.environ.get("CC", "cc"))
+    def test_programs(self) -> None:
+        self.assertTrue(PROGRAMS)
+        for name in PROGRAMS:
+            source = ROOT / f"tests/libfv/{name}.c"
+            words = ("-std=c11", "-O1", "-static", f"-I{ROOT}/libfv/include", "-o", name, source)
+            subprocess.run([os.environ.get("CC", "cc"), *words, LIBRARY.with_name("libfv.a")], check=True)
+            run = self.run_command(*OLDEST, self.room / name)
+            self.assertEqual(run.returncode, 0, f"{name}: {run.stdout}{run.stderr}")
+
+
+if __name__ == "__main__":
+    unittest.main()

@@ -1,0 +1,512 @@
+# SPDX-License-Identifier: BSD-2-Clause-Patent
+"""The rules of the package for Python: its names, its exceptions, its values, its arguments, and the library that it
+loads. The tests use an installed package, or the package that PYTHONPATH names."""
+
+from __future__ import annotations
+
+import concurrent.futures
+import copy
+import ctypes
+import dataclasses
+import hashlib
+import mmap
+import multiprocessing
+import os
+import pickle
+import re
+import shutil
+import struct
+import subprocess
+import sys
+import tempfile
+import threading
+import time
+import types
+import unittest
+import uuid
+from array import array
+from collections.abc import Sequence
+from operator import setitem
+from pathlib import Path
+from typing import Any
+
+import fv
+import rows
+from fv import _errors, _library, _native, names
+from tests import making
+from tests.checks import ROOT, read
+from tests.frame import RoomCase, needs_library, needs_tool
+from tests.python.outcomes import OF_IMAGE, OF_VOLUME, Call, grouped, outcome, raised, volume_of
+
+PACKAGE = Path(fv.__file__).parent
+HEADER = read(ROOT / "libfv/include/fv.h")
+CC = os.environ.get("CC", "cc")
+A, B = uuid.UUID(int=1), uuid.UUID(int=2)
+NAME = uuid.UUID(bytes=b"\x0a" * 16)
+# An expression that is true if both GUIDs are installed.
+BOTH = b"\2" + A.bytes_le + b"\2" + B.bytes_le + b"\3\10"
+# A file with one section, whose body is one byte, and a volume of this file.
+SECTION = b"\x05\x00\x00\x19z"
+VOLUME = volume_of(SECTION)
+
+
+def is_frozen(value: Any) -> bool:
+    """Returns whether no field of a value can be set or added."""
+    name = dataclasses.fields(value)[0].name
+    # The slots reject a field with another name by one of two exceptions.
+    known, other = raised(setattr, value, name, 1), raised(setattr, value, "other", 1)
+    is_rejected = isinstance(known, dataclasses.FrozenInstanceError) and isinstance(other, (AttributeError, TypeError))
+    return is_rejected and not hasattr(value, "__dict__")
+
+
+def again(value: Any) -> tuple[Any, ...]:
+    """Returns a value after it was copied and pickled."""
+    return copy.copy(value), copy.deepcopy(value), pickle.loads(pickle.dumps(value))
+
+
+def hob(kind: int, length: int, fields: bytes = b"") -> bytes:
+    """Returns a block of a hand-off list."""
+    return (kind.to_bytes(2, "little") + length.to_bytes(2, "little") + bytes(4) + fields).ljust(length, b"\0")
+
+
+def constants(prefix: str) -> dict[str, int]:
+    """Returns the constants of fv.h whose names begin with FV_ and this prefix."""
+    return {name: int(number, 0) for name, number in re.findall(rf"\bFV_{prefix}_(\w+) = (\w+)", HEADER)}
+
+
+@needs_library
+class Names(unittest.TestCase):
+    """The names and numbers of the package, beside those of fv.h and docs/FAULTS.md."""
+
+    def test_calls(self) -> None:
+        declared = re.findall(r"\bFV_(?:API|CHECKED)_ [^;]*?\b(fv_\w+)\(", HEADER)
+        named = [it for it in declared if not it.startswith("fv_guid_")]  # the module uuid has the same
+        self.assertEqual((len(declared), sorted(named)), (20, sorted(_native.CALLS)))
+        public = set(fv.__all__) - {it.removeprefix("fv_") for it in named}
+        self.assertEqual(len(public), len(fv.__all__) - len(named))
+        self.assertTrue(all(isinstance(getattr(fv, it), type) for it in public - {"Buffer", "LENGTH_MAX"}))
+        self.assertEqual((fv.LENGTH_MAX, fv.version_number() >> 16, fv.version()[:2]), (2**28, 2, "2."))
+        self.assertEqual(re.sub(r"[.-]?dev\d*$", "", fv.__version__), re.sub(r"-dev$", "", fv.version()))
+
+    def test_types(self) -> None:
+        self.assertEqual(constants("FILE"), {it.name: it for it in fv.FileType})
+        self.assertEqual(constants("SECTION"), {it.name: it for it in fv.SectionType})
+        self.assertEqual({*fv.FileType}, {*names.FILES, fv.FileType.FFS_PAD})
+        self.assertEqual(({*fv.SectionType}, len(fv.SectionType) >= 15), ({*names.SECTIONS}, True))
+
+    def test_codes(self) -> None:
+        self.assertEqual(constants("FAULT"), {it.name: it for it in fv.FaultCode})
+        self.assertEqual(len(fv.FaultCode), 33)
+        fault = _errors.fault_of(7, 99, 1, 0)  # a newer library may have other codes
+        self.assertEqual((fault, type(fault.code)), (fv.Fault(99, 7, 1), int))
+
+    def test_texts(self) -> None:
+        results = [*fv.FaultCode, _native.OK, _native.OUT_OF_MEMORY, _native.BUFFER_TOO_SMALL, _native.NOT_FOUND]
+        results += [_native.BAD_ARGUMENT, _native.BAD_GUID]
+        none = fv.result_text(2**32 - 1)
+        self.assertEqual(len({none, *map(fv.result_text, results)}), len(results) + 1)
+        self.assertEqual({fv.result_text(it) for it in range(0x400) if it not in results}, {none})
+        page = read(ROOT / "docs/FAULTS.md").split("## What each fault means for you")[1].split("\n## ")[0]
+        lines = [line.strip("| ").split(" | ") for line in page.splitlines() if line.startswith("| ")][1:]
+        texts = {int(line[0]): line[1] for line in lines if int(line[0]) <= _native.OUT_OF_MEMORY}
+        self.assertEqual(texts, {it: fv.result_text(it) for it in range(1, _native.OUT_OF_MEMORY + 1)})
+
+    @needs_tool(CC)
+    def test_layouts(self) -> None:
+        # The C compiler has the sizes and offsets of the formats.
+        declared = self.interface()
+        sizes = dict(re.findall(r"(?m)^structure fv_(\w+) (\d+)$", declared))
+        formats = {name: struct.calcsize(it) for name, it in vars(_native).items() if name.endswith("_FORMAT")}
+        self.assertEqual(formats, {f"{name.upper()}_FORMAT": int(size) for name, size in sizes.items()})
+        fields = re.findall(r"field (\S+)\.(\S+) (\d+)", declared)
+        wanted = [f"sizeof(fv_{name}) == {size}" for name, size in sizes.items()]
+        wanted += [f"offsetof({name}, {field}) == {at}" for name, field, at in fields]
+        self.assertGreater(len(wanted), 50)
+        text = "#include <fv.h>\n" + "".join(f'_Static_assert({it}, "{it}");\n' for it in wanted)
+        command = [CC, "-std=c11", f"-I{ROOT}/libfv/include", "-fsyntax-only", "-x", "c", "-"]
+        subprocess.run(command, input=text.encode(), check=True)
+
+    def interface(self) -> str:
+        """Returns the structures and fields that fv.h declares."""
+        command = [str(ROOT / "libfv/generate"), "--interface"]
+        run = subprocess.run(command, capture_output=True, text=True, check=True)
+        return run.stdout
+
+
+class Libraries(RoomCase):
+    """The first call fails if the library is missing, is another file, or has another major number."""
+
+    def said(self, library: str | Path, package: Path = PACKAGE) -> str:
+        """Returns what the exception of the first call says, with a library that LIBFV names."""
+        run = "import fv\ntry: fv.version()\nexcept ImportError as error: print(error.name, error.path, error)"
+        env = {"LIBFV": str(library), "PYTHONPATH": str(package.parent)}
+        return self.run_command(sys.executable, "-B", "-c", run, env=env, check=True).stdout
+
+    def test_missing(self) -> None:
+        missing = self.said("/missing/libfv.so.2")
+        self.assertRegex(missing, "^fv /missing/libfv.so.2 /missing/libfv.so.2: cannot open")
+        self.assertNotIn("install the packages", missing)
+        # The package without its library. Nothing is said if the system's loader finds a library.
+        ignored = shutil.ignore_patterns("*.so*")
+        missing = self.said("", Path(shutil.copytree(PACKAGE, self.room / "fv", ignore=ignored)))
+        self.assertRegex(missing, r"^$|\(install the packages or the wheel of a release; or build")
+        self.assertRegex(self.said(__file__), "invalid ELF header|file too short")
+
+    @needs_tool(CC)
+    def test_others(self) -> None:
+        version = "unsigned fv_version_number(void) {{ return {:#x}; }}"
+        for text, words in (
+            (version.format(0x030100), "is libfv 3.1, not libfv 2"),
+            (version.format(0x010000), "libfv 1.0,"),
+            (version.format(0x020000), "undefined symbol"),
+            ("int x;", "fv_version_number"),
+        ):
+            library = self.room / f"{words[-6:]}.so"
+            subprocess.run([CC, "-shared", "-x", "c", "-o", library, "-"], input=text.encode(), check=True)
+            self.assertIn(words, self.said(library))
+
+
+@needs_library
+class Exceptions(unittest.TestCase):
+    """A fault is a value, and the text of its exception explains it."""
+
+    def test_faults(self) -> None:
+        error = raised(fv.volume_normalise, b"bad")
+        for kind in (fv.FaultError, fv.Error, ValueError):
+            self.assertIsInstance(error, kind)
+        self.assertEqual((error.fault, type(error.fault.code)), (fv.Fault(fv.FaultCode.TRUNCATED, 3), fv.FaultCode))
+        texts = str(error), str(error.fault)
+        self.assertEqual(texts, ("fault 1 at 3: the bytes end before the volume does", "fault 1 at 3"))
+        self.assertTrue(is_frozen(error.fault) and {error.fault: 1}[fv.Fault(fv.FaultCode.TRUNCATED, 3)])
+        self.assertEqual(raised(fv.volume_compare, b"bad", b"worse").fault, error.fault)
+        second = raised(fv.volume_compare, VOLUME, b"bad")
+        self.assertEqual(second.fault, fv.Fault(fv.FaultCode.TRUNCATED, 3, 0, 1))
+        self.assertNotEqual(second.fault, error.fault)
+        self.assertEqual(str(second)[:33], "fault 1 at 3 of the second input:")
+
+    def test_subjects(self) -> None:
+        depex, hobs = outcome(fv.depex_evaluate, BOTH[:30]), outcome(fv.hobs_read, b"bad")
+        self.assertEqual((depex, hobs), (fv.Fault(fv.FaultCode.DEPEX_SHORT, 17), fv.Fault(fv.FaultCode.HOB_SHORT, 0)))
+        self.assertEqual((depex.code, depex.number, str(depex)), (0x201, 1, "fault 1 at 17"))
+        self.assertNotEqual(depex.text, outcome(fv.volume_normalise, b"bad").text)
+
+    def test_copies(self) -> None:
+        # Processes are not forked, because this process may have threads.
+        error = raised(fv.volume_normalise, b"bad")
+        error.note = "kept"
+        for copied in again(error):
+            self.assertEqual((type(copied), str(copied)), (fv.FaultError, str(error)))
+            self.assertEqual((copied.fault, vars(copied)["note"]), (error.fault, "kept"))
+        spawn = multiprocessing.get_context("spawn")
+        with concurrent.futures.ProcessPoolExecutor(2, mp_context=spawn) as pool:
+            found = [pool.submit(fv.volume_normalise, it) for it in (VOLUME, b"bad", VOLUME)]
+            sent: Any = found[1].exception(60)
+            self.assertEqual(sent.fault, error.fault)
+            self.assertEqual({found[0].result(60), found[2].result(60)}, {fv.volume_normalise(VOLUME)})
+            self.assertEqual(pool.submit(fv.volume_tree, VOLUME).result(60), fv.volume_tree(VOLUME))
+
+    def test_memory(self) -> None:
+        run = """if True:
+            import resource, sys, fv
+            data = sys.stdin.buffer.read()
+            most = int(open("/proc/self/statm").read().split()[0]) * 4096 + (8 << 20)
+            resource.setrlimit(resource.RLIMIT_AS, (most, most))
+            for call in (fv.volume_digest, fv.volume_tree):
+                try: call(data)
+                except MemoryError as error: print("MemoryError", *error.args)"""
+        # The files have the same name, so the volume is rejected only after they were found.
+        many = rows.volume_of(rows.file_of(1, b"") * 400_000)
+        env = {**os.environ, "PYTHONPATH": str(PACKAGE.parent)}
+        command = [sys.executable, "-B", "-c", run]
+        said = subprocess.run(command, input=many, env=env, capture_output=True, check=True).stdout
+        self.assertEqual(said, b"MemoryError out of memory\n" * 2)
+
+
+@needs_library
+class Values(unittest.TestCase):
+    """Each call returns values of the right types, with None in a field that a part does not have."""
+
+    maxDiff = None
+
+    def test_numbers(self) -> None:
+        # Every argument of operator.index is a number, and no number is cut.
+        two: Any = type("Two", (), {"__index__": lambda self: 2})()
+        one: Any = True
+        self.assertEqual((fv.volume_extract(VOLUME, two), fv.volume_extract(VOLUME, 2)), (b"z", b"z"))
+        self.assertEqual(fv.result_text(two), fv.result_text(2))
+        self.assertIs(fv.depex_evaluate(b"\x06\x08", one), True)
+        cases: tuple[tuple[Call, tuple[bytes, ...], type[Exception], tuple[Any, ...]], ...] = (
+            (fv.volume_extract, (VOLUME,), TypeError, (1.0, "1", None)),
+            (fv.result_text, (), TypeError, (1.0, "1", None)),
+            (fv.depex_evaluate, (b"\x06\x08",), TypeError, (1.0, "1", None)),
+            (fv.result_text, (), ValueError, (2**32, 2**32 + 1, -1)),
+            (fv.depex_evaluate, (b"\x06\x08",), ValueError, (2, 2**32, 2**32 + 1, -1)),
+            (fv.volume_extract, (VOLUME,), IndexError, (3, 2**64 + 2, 2**64, 2**64 - 1, -1)),
+            (fv.volume_extract, (b"bad",), fv.FaultError, (9,)),
+        )
+        for call, first, kind, wrong in cases:
+            for value in wrong:
+                self.assertIs(type(raised(call, *first, value)), kind, (call, value))
+
+    def test_sequences(self) -> None:
+        found: Any = fv.volume_tree(VOLUME)
+        none: Any = fv.image_scan(b"")
+        self.assertTrue(isinstance(found, Sequence) and type(found).__name__ not in dir(fv) and len(found) == 3)
+        self.assertTrue(found == found[:] == list(found) == found == tuple(found) == found)
+        self.assertTrue(type(found[1:]) is type(found[::-1]) is type(found))
+        self.assertTrue(found[1:] == list(found)[1:] and found[1:] != found)
+        for cut in (slice(None, None, -1), slice(2, 0, -2), slice(0, 3, 2), slice(5, 1), slice(-2, None), slice(1, 1)):
+            self.assertEqual(list(found[cut]), list(found)[cut])
+        self.assertTrue(found[-1] == found[2] == found[True:][1] and [*reversed(found)] == found[::-1])
+        for wrong in (3, -4):
+            self.assertRaises(IndexError, found.__getitem__, wrong)
+        self.assertRaises(TypeError, found.__getitem__, 1.0)
+        self.assertRaises(TypeError, hash, found)
+        self.assertRaises(TypeError, setitem, found, 0, found[1])
+        self.assertTrue(none == [] == none == () == none and none != b"" and none != "" and not none == b"")
+        self.assertEqual((found != "rows", found.index(found[2]), found.count(found[1])), (True, 2, 1))
+        self.assertIn(found[1], found)
+        for copied in again(found):
+            self.assertEqual((type(copied), copied), (type(found), found))
+
+    def test_rows(self) -> None:
+        header = fv.Header(0, len(VOLUME), 72, 72, 0x4FEFF, 2, 255, None)
+        self.assertEqual(fv.header_read(VOLUME + b"more"), header)
+        self.assertEqual(fv.image_scan(bytes(8) + VOLUME), [dataclasses.replace(header, offset=8)])
+        nodes = fv.volume_tree(VOLUME)
+        wanted = [
+            fv.Node(0, len(VOLUME), None, 0, 0, fv.NodeKind.VOLUME, fv.Content.FILES, None, 0x4FEFF, 72, None, 2),
+            fv.Node(96, 5, 0, 0, 1, fv.NodeKind.FILE, fv.Content.SECTIONS, 2, 0, 24, NAME, None),
+            fv.Node(100, 1, 1, 0, 2, fv.NodeKind.SECTION, fv.Content.BYTES, 0x19, None, 4, None, None),
+        ]
+        self.assertEqual(nodes, wanted)
+        self.assertEqual((type(nodes[0].kind), type(nodes[0].content)), (fv.NodeKind, fv.Content))
+        with_free_space = rows.volume_of(rows.file_of(2, SECTION) + b"\xff" * 67)
+        cells = fv.volume_cells(with_free_space)
+        wanted_cells = [
+            fv.Cell(72, 29, fv.CellKind.FILE, 24, 2, 0, NAME),
+            fv.Cell(104, 64, fv.CellKind.FREE, None, None, None, None),
+        ]
+        self.assertEqual(cells, wanted_cells)
+        named = rows.spelled("ext-header-bare")
+        name = uuid.UUID(bytes=b"\x0e" * 16)
+        self.assertEqual((fv.header_read(named).name, fv.volume_tree(named)[0].guid), (name, name))
+        found = fv.hobs_read(hob(1, 56) + hob(5, 24, struct.pack("<QQ", 64, 4096)) + hob(0xFFFF, 8) + b"more")
+        blocks = [fv.Hob(None, None, 1, 56), fv.Hob(64, 4096, 5, 24), fv.Hob(None, None, 0xFFFF, 8)]
+        self.assertEqual((found.length, found.blocks), (88, blocks))
+        values = [header, nodes[0], cells[0], found.blocks[0], fv.image_check(VOLUME)[0], found]
+        self.assertTrue(all(map(is_frozen, values)) and len({*values[:5]}) == 5)
+        self.assertTrue(all(copied == value for value in values for copied in again(value)))
+
+    def test_fields(self) -> None:
+        data, name = grouped(), uuid.UUID(bytes_le=bytes(range(11, 27)))
+        section, group = fv.NodeKind.SECTION, fv.Content.SECTIONS
+        wanted = [
+            fv.Node(0, 160, None, 0, 0, fv.NodeKind.VOLUME, fv.Content.FILES, None, 0x4FEFF, 72, None, 2),
+            fv.Node(96, 44, 0, 0, 1, fv.NodeKind.FILE, group, 2, 0x40, 24, name, None),
+            fv.Node(104, 6, 1, 0, 2, section, fv.Content.BYTES, 0x14, None, 8, None, None),
+            fv.Node(116, 16, 1, 1, 2, section, group, 0x03, None, 4, None, None),
+            fv.Node(120, 5, 3, 0, 3, section, fv.Content.BYTES, 0x19, None, 4, None, None),
+            fv.Node(132, 0, 3, 1, 3, section, group, 0x03, None, 4, None, None),
+            fv.Node(136, 3, 1, 2, 2, section, fv.Content.BYTES, 0x19, None, 4, None, None),
+        ]
+        self.assertEqual(fv.volume_tree(data), wanted)
+        for row, node in enumerate(wanted):
+            self.assertEqual(fv.volume_extract(data, row), data[node.offset : node.offset + node.length])
+        cells = [fv.Cell(72, 68, fv.CellKind.FILE, 24, 2, 0x40, name)]
+        cells.append(fv.Cell(144, 16, fv.CellKind.FREE, None, None, None, None))
+        self.assertEqual(fv.volume_cells(data), cells)
+        self.assertEqual(fv.header_read(data), fv.Header(0, 160, 72, 72, 0x4FEFF, 2, 255, None))
+        # The output of `sha256sum` for the bytes b1, b2 and b3.
+        digest = "0de80e00e7763e2e4197607b23278a56debaac84613f97f439a670286d04866c"
+        self.assertEqual(fv.volume_tree_digests(data)[6], bytes.fromhex(digest))
+        fault = outcome(fv.volume_compare, data, grouped(40))
+        self.assertEqual(fault, fv.Fault(fv.FaultCode.SECTION_SIZE, 116, 1, 1))
+
+    def test_digests(self) -> None:
+        inside = [hashlib.sha256(part).digest() for part in (SECTION, b"z")]
+        self.assertEqual(fv.volume_tree_digests(VOLUME), [fv.volume_digest(VOLUME), *inside])
+        # The output of `sha256sum` for the empty volume, which is its own image.
+        wanted = "fa2372b57e3223fafe321ef347cb77d4373819ad5abdea2446fff51d258ed758"
+        self.assertEqual(fv.volume_digest(rows.spelled("empty")).hex(), wanted)
+        group = volume_of(b"\x09\x00\x00\x03" + SECTION)
+        self.assertEqual([it is None for it in fv.volume_tree_digests(group)], [False, False, True, False])
+
+    def test_many_rows(self) -> None:
+        # A call returns all rows, whatever room its first buffer has.
+        for count in (1, 3, 1023, 1024, 1025, 3000, 70_000):
+            many = volume_of(b"\x05\x00\x00\x19z000" * count)
+            nodes, digests = fv.volume_tree(many), fv.volume_tree_digests(many)
+            self.assertEqual((len(nodes), len(digests)), (count + 2, count + 2))
+            last = 72 + 24 + 8 * count - 4, 1, 1, count - 1, 2, fv.NodeKind.SECTION, fv.Content.BYTES, 0x19
+            self.assertEqual(nodes[-1], fv.Node(*last, None, 4, None, None))
+            self.assertEqual((digests[-1], fv.volume_extract(many, count + 1)), (hashlib.sha256(b"z").digest(), b"z"))
+            offsets = [*range(0, len(VOLUME) * count, len(VOLUME))]
+            self.assertTrue([it.offset for it in fv.image_scan(VOLUME * count)] == offsets)
+            checks = [fv.VolumeCheck(at, len(VOLUME), None, True) for at in offsets]
+            self.assertEqual(fv.image_check(VOLUME * count), checks)
+            found = fv.hobs_read(hob(1, 56) + hob(0xFFFE, 8) * (count - 1) + hob(0xFFFF, 8))
+            self.assertEqual((len(found.blocks), found.length), (count + 1, 56 + 8 * count))
+        # A volume of empty sections of four bytes has more rows than the first buffer has room for.
+        self.assertEqual(len(fv.volume_tree(volume_of(b"\x04\x00\x00\x19" * 5000))), 5002)
+
+    def test_checks(self) -> None:
+        # The row of a rejected volume has its fault.
+        wrong = VOLUME.replace(b"\x05\x00\x00\x19", b"\x03\x00\x00\x19")
+        fault = outcome(fv.volume_is_canonical, wrong)
+        wanted = dataclasses.replace(fault, offset=fault.offset + len(VOLUME))
+        size, found = len(VOLUME), fv.image_check(VOLUME + wrong)
+        self.assertEqual(found, [fv.VolumeCheck(0, size, None, True), fv.VolumeCheck(size, size, wanted, False)])
+        self.assertTrue(all(copied == found and copied[1].fault.text == fault.text for copied in again(found)))
+        self.assertEqual(fv.image_check(wrong[8:]), [])
+
+    def test_comparison(self) -> None:
+        found = fv.volume_compare(VOLUME, VOLUME.replace(b"z", b"y"))
+        self.assertEqual(found, "different at file 0 section 0 body")
+
+    def test_marks(self) -> None:
+        # A volume with a fixed file is read without the mark, and the given bytes stay as they are.
+        at, marked = 72, rows.volume_of(making.file(NAME, SECTION, making.FREEFORM, making.FIXED))
+        for call in OF_VOLUME:
+            if call != fv.volume_unfix:
+                self.assertEqual(outcome(call, marked), fv.Fault(fv.FaultCode.FIXED, at + 19))
+        for data in (marked, bytearray(marked)):
+            for copied in (True, False):
+                self.assertEqual((fv.volume_unfix(data, copy=copied), data), (VOLUME, marked))
+        self.assertEqual(outcome(fv.volume_unfix, marked + b"\0"), fv.Fault(fv.FaultCode.LENGTH, len(VOLUME)))
+        self.assertEqual(outcome(fv.volume_unfix, b""), fv.Fault(fv.FaultCode.TRUNCATED, 0))
+        damaged = bytearray(marked)
+        damaged[at + 17] ^= 1
+        self.assertEqual(outcome(fv.volume_unfix, damaged), fv.Fault(fv.FaultCode.FILE_SUM, at + 17))
+
+    def test_expressions(self) -> None:
+        for phase, installed, wanted in (
+            (fv.Phase.PEI, [A, B], True),
+            (fv.Phase.PEI, {B}, False),
+            (fv.Phase.DXE, iter((B, A)), True),
+            (fv.Phase.DXE, (), False),
+        ):
+            self.assertIs(fv.depex_evaluate(BOTH, phase, installed), wanted)
+        before = b"\0" + A.bytes_le + b"\10"
+        self.assertIsNone(fv.depex_evaluate(before))
+        self.assertEqual(outcome(fv.depex_evaluate, before, fv.Phase.PEI).code, fv.FaultCode.DEPEX_OPCODE)
+        self.assertIs(fv.depex_evaluate(bytearray(BOTH), fv.Phase.DXE, [A, B], copy=False), True)
+        short = types.SimpleNamespace(bytes_le=A.bytes_le[:5])
+        self.assertEqual(str(raised(fv.depex_evaluate, BOTH, fv.Phase.PEI, [A, short])), "a GUID has 16 bytes")
+
+
+class Longer(bytes):
+    """Bytes that report a larger length than they have."""
+
+    def __len__(self) -> int:
+        return 1 << 20
+
+
+def address(data: Any, is_copied: bool) -> tuple[int, int]:
+    """Returns the address and the size that a call passes to the library."""
+    with _library.Held(data, is_copied) as (place, size):
+        return ctypes.cast(place, ctypes.c_void_p).value or 0, size
+
+
+@needs_library
+class Buffers(unittest.TestCase):
+    """Each kind of buffer is read, and no buffer is changed."""
+
+    def test_kinds(self) -> None:
+        image, tree = fv.volume_normalise(VOLUME), fv.volume_tree(VOLUME)
+        with tempfile.TemporaryFile() as file:
+            file.write(VOLUME)
+            file.flush()
+            maps = [mmap.mmap(file.fileno(), 0, access=it) for it in (mmap.ACCESS_READ, mmap.ACCESS_COPY)]
+            view = memoryview(VOLUME)
+            kinds: list[Any] = [VOLUME, bytearray(VOLUME), view, memoryview(bytearray(VOLUME)), *maps]
+            kinds += [memoryview(maps[0]), array("Q", VOLUME), view.cast("Q"), Longer(VOLUME)]
+            kinds += [(ctypes.c_char * len(VOLUME)).from_buffer_copy(VOLUME), memoryview(b"8 bytes!" + VOLUME)[8:]]
+            kinds += [memoryview(bytearray(b"odd" + VOLUME))[3:], view.cast("B", (2, len(VOLUME) // 2))]
+            kinds += [pickle.PickleBuffer(VOLUME), view.toreadonly()]
+            for data in kinds:
+                for copied in (False, True):
+                    self.assertEqual(fv.volume_normalise(data, copy=copied), image)
+                    self.assertEqual(fv.volume_tree(data, copy=copied), tree)
+                    self.assertEqual(fv.volume_digest(data, copy=copied), hashlib.sha256(image).digest())
+                    self.assertIsNone(fv.volume_compare(data, image, copy=copied))
+                    self.assertIsNone(fv.volume_compare(image, data, copy=copied))
+                    self.assertEqual([it.offset for it in fv.image_scan(data, copy=copied)], [0])
+                    self.assertEqual(fv.volume_extract(data, 2, copy=copied), b"z")
+                    self.assertEqual(len(fv.volume_cells(data, copy=copied)), 1)
+                self.assertEqual(bytes(memoryview(data)), VOLUME)
+            del data, kinds[:]
+            for it in maps:
+                it.close()  # no call has kept a view
+
+    def test_empty(self) -> None:
+        for empty in (b"", bytearray(), memoryview(b""), memoryview(bytearray(VOLUME))[5:5]):
+            for copied in (False, True):
+                for call in OF_VOLUME:
+                    self.assertEqual(outcome(call, empty, copy=copied), fv.Fault(fv.FaultCode.TRUNCATED, 0), call)
+                self.assertEqual((fv.image_scan(empty, copy=copied), fv.image_check(empty, copy=copied)), ([], []))
+                self.assertEqual(fv.image_normalise(empty, copy=copied), b"")
+
+    def test_rejected(self) -> None:
+        for wrong in ("text", 5, None, [1]):
+            for copied in (False, True):
+                self.assertIsInstance(raised(fv.volume_normalise, wrong, copy=copied), TypeError)
+        self.assertIsInstance(raised(fv.volume_normalise, VOLUME, False), TypeError)  # `copy` is given by its name
+        # A view with gaps can only be copied.
+        doubled = bytes(it for byte in VOLUME for it in (byte, 0))
+        for data in (memoryview(doubled)[::2], memoryview(bytearray(doubled))[::2]):
+            self.assertEqual(fv.volume_normalise(data), fv.volume_normalise(VOLUME))
+            self.assertIsInstance(raised(fv.volume_normalise, data, copy=False), BufferError)
+
+    def test_places(self) -> None:
+        # The library reads the bytes of a bytes object in place.
+        start, size = ctypes.cast(ctypes.c_char_p(VOLUME), ctypes.c_void_p).value or 0, len(VOLUME)
+        for is_copied in (False, True):
+            for data, wanted in (
+                (VOLUME, (start, size)),
+                (memoryview(VOLUME), (start, size)),
+                (memoryview(VOLUME)[8:24], (start + 8, 16)),
+                (memoryview(VOLUME).cast("Q")[1:], (start + 8, size - 8)),
+            ):
+                self.assertEqual(address(data, is_copied), wanted)
+        writable = bytearray(VOLUME)
+        start = ctypes.addressof(ctypes.c_char.from_buffer(writable))
+        self.assertEqual(address(writable, False), (start, size))
+        self.assertEqual(address(memoryview(writable)[8:], False), (start + 8, size - 8))
+        for data in (writable, memoryview(writable).toreadonly()):
+            self.assertNotEqual(address(data, True)[0], start)
+        self.assertEqual((address(Longer(VOLUME), False)[1], address(Longer(VOLUME), True)[1]), (size, size))
+
+    def test_released(self) -> None:
+        # The buffer is released when the call returns or raises.
+        for data in (bytearray(b"bad"), bytearray(VOLUME)):
+            error = raised(fv.volume_normalise, data, copy=False)
+            data.append(0)
+            self.assertEqual(error is None, len(data) > 4)
+
+    def test_changing(self) -> None:
+        # A buffer to which another thread writes during a call does no harm.
+        sizes, ends = b"\x08\x00\x00\x19abcd", threading.Event()
+        data = bytearray(volume_of(sizes * 100_000))
+        at = data.index(sizes)
+
+        def write() -> None:
+            place = at
+            while not ends.is_set():
+                data[place : place + 3] = b"\xff\xff\xff"
+                data[place : place + 3] = b"\x08\x00\x00"
+                place = at + (place - at + 8 * 7919) % (8 * 100_000)
+
+        writer = threading.Thread(target=write)
+        writer.start()
+        self.addCleanup(writer.join)
+        self.addCleanup(ends.set)
+        end = time.monotonic() + 2
+        while time.monotonic() < end:
+            for call in (*OF_VOLUME, *OF_IMAGE):
+                outcome(call, data)
+            outcome(fv.volume_extract, data, 1)
+
+
+if __name__ == "__main__":
+    unittest.main()
