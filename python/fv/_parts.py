@@ -11,14 +11,13 @@ from collections.abc import Iterable, Iterator
 from dataclasses import dataclass, field, replace
 
 from . import cli
-from .images import Content, File, Opened, Part, Section, Unread, Volume
+from .images import OUTSIDE, Content, File, Opened, Part, Section, Unread, Volume
 from .limits import Full
 from .names import DEPEX, PE32, TE, Names
 from .opened import is_uniform
 from .shown import file_name
 
 IMAGE = "image"  # `within` of a part that is not in an opened section: its offset counts from the image's start
-OUTSIDE = "it is in no volume"  # why bytes are not read if the reader gives no other reason
 # Parts lie in one another, and each has a digest. All digests of an image cover at most this many bytes, and this many
 # times its own length.
 LEAST_DIGESTED, TIMES_DIGESTED = 1 << 29, 16

@@ -17,7 +17,7 @@ import functools
 import struct
 import uuid
 from collections.abc import Generator, Iterable, Iterator, Sequence
-from dataclasses import dataclass, field
+from dataclasses import dataclass, field, replace
 from typing import NamedTuple, TypeVar
 
 from . import names
@@ -39,6 +39,7 @@ VOLUME_PARTS = 4  # parts that a volume counts for, because its header and its c
 HEAD = 64  # bytes that show what lies outside of volumes
 FIXED, ATTRIBUTES_AT = 0x04, 19  # the attribute of a file that may not be moved; where a file header has the attributes
 SYSTEMS = {2: "FFS2", 3: "FFS3"}
+OUTSIDE = "it is in no volume"  # why bytes are not read if no other reason is known
 LONGEST_TEXT = 200  # characters of a text that are read
 REMAINS = {
     CellKind.FILE: ("superseded file", "another file took its place"),
@@ -432,12 +433,16 @@ class Reader:
         try:
             header_read(memoryview(data)[begin:end])
         except FaultError as error:
-            return _moved(error.fault, begin)
+            return replace(error.fault, offset=begin + error.fault.offset)
         return None
 
     def _with_unread(self, content: Found) -> Found:
         """Adds the gaps that are not erased, and the headers of volumes that are not read."""
-        gaps = [_gap(it) for it in content.others if not is_erased(it.data, it.offset, it.end)]
+        gaps = [
+            Unread(it.data, it.offset, it.length, names.what_begins(it.view[:HEAD].tobytes()), OUTSIDE, is_gap=True)
+            for it in content.others
+            if not is_erased(it.data, it.offset, it.end)
+        ]
         places = [*_places_read_apart(content.sections), *places_of(content.volumes)]
         stretches = between(0, places, len(content.data))
         content.unread = self._sorted(content.data, gaps, stretches)
@@ -474,9 +479,9 @@ class Reader:
             self._budget.count(VOLUME_PARTS)
             # The codes before this one are the faults of headers.
             name = header_read(body).name if error.fault.code >= FaultCode.FILE_STATE else None
-            rejected = Volume(data, offset, length, name, fault=_moved(error.fault, offset))
-            inside = "it is in a volume that is rejected"
-            rejected.unread = list(self._headers(data, offset + 1, offset + length, inside))
+            fault = replace(error.fault, offset=offset + error.fault.offset)
+            rejected = Volume(data, offset, length, name, fault=fault)
+            rejected.unread = list(self._headers(data, offset + 1, rejected.end, "it is in a volume that is rejected"))
             return rejected
         self._budget.count(len(rows) - 1 + VOLUME_PARTS)
         parts: list[Part] = []
@@ -501,17 +506,6 @@ class Reader:
                 self._add_unread(inner)
         places = (place for file in volume.files for place in _places_read_apart(file.sections))
         volume.unread = self._sorted(volume.data, remains, between(volume.offset + 1, places, volume.end))
-
-
-def _gap(part: Part) -> Unread:
-    """Returns bytes that are in no volume and in no section, with what they are if that is known."""
-    what = names.what_begins(part.data[part.offset : part.offset + HEAD])
-    return Unread(part.data, part.offset, part.length, what, "it is in no volume", is_gap=True)
-
-
-def _moved(fault: Fault, start: int) -> Fault:
-    """Returns a fault with the offset in the data in which its volume begins at `start`."""
-    return Fault(fault.code, start + fault.offset, fault.depth, fault.input)
 
 
 def _remains(volume: Volume, cells: Sequence[Cell]) -> Iterator[Unread]:

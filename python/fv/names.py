@@ -25,8 +25,8 @@ PE32, TE, VERSION, UI = SectionType.PE32, SectionType.TE, SectionType.VERSION, S
 VOLUME, SUBTYPE = SectionType.FIRMWARE_VOLUME_IMAGE, SectionType.FREEFORM_SUBTYPE_GUID
 CODE = (PE32, SectionType.PIC, TE)
 DEPEX = (SectionType.DXE_DEPEX, SectionType.PEI_DEPEX, SectionType.MM_DEPEX)
-SECTION_NAMES = """compressed, GUID-defined, group, PE32, PIC, TE, DXE depex, version, UI, 16-bit, volume, freeform GUID,
-raw, PEI depex, MM depex"""
+SECTION_NAMES = """compressed, GUID-defined, group, PE32, PIC, TE, DXE depex, version, UI, 16-bit, volume,
+freeform GUID, raw, PEI depex, MM depex"""
 SECTIONS: dict[int, str] = dict(zip(SectionType, re.split(r",\s", SECTION_NAMES)))
 
 # The ops of dependency expressions, by their codes. The first three have a GUID.
