@@ -42,8 +42,8 @@ class Full(Exception):
 
 
 class Budget:
-    """What is taken of the limits for one image. A reader takes something before it uses it. Each method raises Full if
-    not enough is left."""
+    """The counts of the bytes and parts of one image that a reader has taken, each up to its limit. A reader takes
+    something before it uses it. Each method raises Full if not enough is left."""
 
     def __init__(self, limits: Limits, size: int) -> None:
         self.limits = limits

@@ -175,8 +175,7 @@ class Comparison:
     def report(self, first: Content, second: Content) -> Report:
         """Returns the differences between the two images."""
         old, new = ({it.offset: it for it in image.volumes} for image in (first, second))
-        lengths = [{at: it.length for at, it in volumes.items()} for volumes in (old, new)]
-        report = Report(is_other_layout=lengths[0] != lengths[1])
+        report = Report(is_other_layout=[*places_of(first.volumes)] != [*places_of(second.volumes)])
         for at in sorted({*old, *new}):
             if at in old and at in new:
                 report.volumes.append(self._pair(old[at], new[at], 0))
