@@ -19,6 +19,7 @@ be used."""
 
 from __future__ import annotations
 
+import argparse
 import sys
 from collections.abc import Iterator
 from pathlib import Path
@@ -52,23 +53,20 @@ def complaints(image: Drawing) -> Iterator[str]:
         yield f"{image.path}: not all of it is shown"
 
 
-def parser() -> cli.Parser:
-    """Returns the arguments of the command."""
-    made = cli.Parser(NAME, __doc__)
-    made.add_argument("image", metavar="IMAGE", help="a flash image or a firmware volume")
-    made.add_argument("--against", metavar="OLD", help="an image to compare with")
-    made.add_argument(
-        "--names", metavar="FILE", type=Path, action="append", default=[], help="more names: lines of a GUID and a name"
-    )
-    return made
+ABOUT_NAMES = "more names: lines of a GUID and a name"
+parser = cli.of(
+    NAME,
+    __doc__,
+    cli.IMAGE,
+    cli.argument("--against", metavar="OLD", help="an image to compare with"),
+    cli.argument("--names", metavar="FILE", type=Path, action="append", default=[], help=ABOUT_NAMES),
+)
 
 
-@cli.command(NAME)
-def main(words: list[str]) -> int:
+@cli.command(parser)
+def main(given: argparse.Namespace) -> int:
     """Runs the command."""
-    given = parser().parse_args(words)
     cli.refuse_terminal(NAME, "a page")
-    cli.limit_memory()
     names = Names([EDK2, *given.names])
     image = drawing(given.image, names)
     against = drawing(given.against, names) if given.against else None
