@@ -5,6 +5,7 @@ Debian). TMPDIR is a folder in that root then."""
 
 from __future__ import annotations
 
+import itertools
 import os
 import unittest
 from pathlib import Path
@@ -47,20 +48,15 @@ class Jobs(ImageCase):
             self.within = ["chroot", "--userspec=nobody:nogroup", ELSEWHERE]
             self.within += ["env", "-i", "-C", place, "PATH=/usr/bin:/bin"]
 
-    def ends(self, status: int, system: str, shell: list[str], job: str, image: str, released: str = "") -> None:
-        """Runs the shell of a job, and checks its status."""
-        Path("job").write_text(self.runs(0, ROOT / "recipes/ci/shell", ROOT / f"recipes/ci/{system}.yml", job))
-        self.runs(status, *self.within, f"IMAGE={image}", f"RELEASED={released}", *shell, "job")
-
     def test_statuses(self) -> None:
-        for system in ("github", "gitlab"):
-            for shell in SHELLS:
-                for status, job, *images in JOBS:
-                    with self.subTest(system=system, shell=shell[0], job=job, images=images):
-                        # Other firmware is a warning, which GitLab knows by status 1.
-                        is_warning = status == 1 and job == "same" and system == "github"
-                        self.ends(0 if is_warning else status, system, shell, job, *images)
-                        if status == 0 and job == "same":
-                            self.assertEqual(Path("map.html").read_text().splitlines()[0], "<!doctype html>")
-                        elif status == 1 and job == "same":
-                            self.assertIn("different", Path("changed.txt").read_text().splitlines())
+        for system, shell, (status, job, *images) in itertools.product(("github", "gitlab"), SHELLS, JOBS):
+            with self.subTest(system=system, shell=shell[0], job=job, images=images):
+                # Other firmware is a warning, which GitLab knows by status 1.
+                is_warning = status == 1 and job == "same" and system == "github"
+                Path("job").write_text(self.runs(0, ROOT / "recipes/ci/shell", ROOT / f"recipes/ci/{system}.yml", job))
+                given = [f"{name}={image}" for name, image in zip(("IMAGE", "RELEASED"), images)]
+                self.runs(0 if is_warning else status, *self.within, *given, *shell, "job")
+                if status == 0 and job == "same":
+                    self.assertEqual(Path("map.html").read_text().splitlines()[0], "<!doctype html>")
+                elif status == 1 and job == "same":
+                    self.assertIn("different", Path("changed.txt").read_text().splitlines())
