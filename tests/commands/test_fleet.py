@@ -93,11 +93,8 @@ def readme(name: str) -> list[str]:
 
 def free_ports(count: int) -> list[int]:
     """Returns ports of this machine that are free."""
-    sockets = [socket.create_server(("127.0.0.1", 0)) for _ in range(count)]
-    ports = [it.getsockname()[1] for it in sockets]
-    for it in sockets:
-        it.close()
-    return ports
+    with contextlib.ExitStack() as stack:
+        return [stack.enter_context(socket.create_server(("127.0.0.1", 0))).getsockname()[1] for _ in range(count)]
 
 
 def seconds() -> tuple[float, float]:
