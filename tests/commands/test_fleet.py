@@ -94,7 +94,8 @@ def readme(name: str) -> list[str]:
 def free_ports(count: int) -> list[int]:
     """Returns ports of this machine that are free."""
     with contextlib.ExitStack() as stack:
-        return [stack.enter_context(socket.create_server(("127.0.0.1", 0))).getsockname()[1] for _ in range(count)]
+        ports = [stack.enter_context(socket.create_server(("127.0.0.1", 0))).getsockname()[1] for _ in range(count)]
+    return ports
 
 
 def seconds() -> tuple[float, float]:
