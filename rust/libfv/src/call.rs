@@ -48,14 +48,8 @@ pub(crate) unsafe fn filled<T>(
 }
 
 /// A call that writes rows about an input.
-type RowsCall<R> = unsafe extern "C" fn(
-    *const c_void,
-    usize,
-    *mut R,
-    usize,
-    *mut usize,
-    *mut sys::fv_fault,
-) -> sys::fv_result;
+type RowsCall<R> =
+    unsafe extern "C" fn(*const c_void, usize, *mut R, usize, *mut usize, *mut sys::fv_fault) -> sys::fv_result;
 
 /// Returns the rows that a call writes about an input.
 pub(crate) fn rows<T: Row>(call: RowsCall<T::Raw>, input: &[u8]) -> Result<Vec<T>, Error> {
@@ -63,21 +57,13 @@ pub(crate) fn rows<T: Row>(call: RowsCall<T::Raw>, input: &[u8]) -> Result<Vec<T
     // its structure, and the call writes what fv.h says.
     unsafe {
         filled(ROOM, |buffer: *mut T, room, count, fault| {
-            call(
-                address(input),
-                input.len(),
-                buffer.cast(),
-                room,
-                count,
-                fault,
-            )
+            call(address(input), input.len(), buffer.cast(), room, count, fault)
         })
     }
 }
 
 /// A call that writes one value about an input.
-type ValueCall<T> =
-    unsafe extern "C" fn(*const c_void, usize, *mut T, *mut sys::fv_fault) -> sys::fv_result;
+type ValueCall<T> = unsafe extern "C" fn(*const c_void, usize, *mut T, *mut sys::fv_fault) -> sys::fv_result;
 
 /// Returns the value that a call writes about an input.
 pub(crate) fn value<T: Default>(call: ValueCall<T>, input: &[u8]) -> Result<T, Error> {
@@ -88,13 +74,7 @@ pub(crate) fn value<T: Default>(call: ValueCall<T>, input: &[u8]) -> Result<T, E
 }
 
 /// A call that writes as many bytes as its input has.
-type ImageCall = unsafe extern "C" fn(
-    *const c_void,
-    usize,
-    *mut c_void,
-    usize,
-    *mut sys::fv_fault,
-) -> sys::fv_result;
+type ImageCall = unsafe extern "C" fn(*const c_void, usize, *mut c_void, usize, *mut sys::fv_fault) -> sys::fv_result;
 
 /// Returns the bytes that a call writes, which are as many as the input has.
 pub(crate) fn image(call: ImageCall, input: &[u8]) -> Result<Vec<u8>, Error> {

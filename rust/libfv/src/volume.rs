@@ -410,15 +410,7 @@ pub fn extract(volume: &[u8], row: usize) -> Result<Vec<u8>, Error> {
     // what fv.h says.
     unsafe {
         filled(volume.len(), |buffer: *mut u8, room, length, fault| {
-            sys::fv_volume_extract(
-                address(volume),
-                volume.len(),
-                row,
-                buffer.cast(),
-                room,
-                length,
-                fault,
-            )
+            sys::fv_volume_extract(address(volume), volume.len(), row, buffer.cast(), room, length, fault)
         })
     }
 }
@@ -454,10 +446,7 @@ mod tests {
         second.0.length = 1;
         assert_ne!(first, second);
         let text = format!("{first:?}");
-        assert!(
-            text.starts_with("Cell { offset: 0, length: 0, kind: File, "),
-            "{text}"
-        );
+        assert!(text.starts_with("Cell { offset: 0, length: 0, kind: File, "), "{text}");
     }
 
     #[test]

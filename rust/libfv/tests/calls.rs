@@ -67,17 +67,11 @@ fn guids_are_displayed_and_parsed() {
     assert_eq!(format!("{guid:?}"), format!("Guid({text})"));
     for text in [text.to_owned(), text.to_uppercase()] {
         assert_eq!(text.parse(), Ok(guid));
-        let mut wrong = vec![
-            format!("{{{text}}}"),
-            format!("{text}0"),
-            format!("{text}\0"),
-        ];
+        let mut wrong = vec![format!("{{{text}}}"), format!("{text}0"), format!("{text}\0")];
         for (at, character) in text.char_indices() {
             let (before, after) = (&text[..at], &text[at + 1..]);
             let other = if character == '-' { "0" } else { "-" };
-            wrong.extend(
-                ["", "g", "é", "00", "+", " ", "\0", other].map(|it| [before, it, after].concat()),
-            );
+            wrong.extend(["", "g", "é", "00", "+", " ", "\0", other].map(|it| [before, it, after].concat()));
             wrong.push(before.to_owned());
         }
         for it in wrong {
