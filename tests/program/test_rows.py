@@ -7,8 +7,8 @@ text. The first input is a file, and is then also given on standard input if the
 and all of standard output have to be as the row says, and standard error has to be empty. Each expression is put into a
 volume, which `check` reads. Some inputs are read only from standard input: volumes with expressions, the rows of
 `parts`, `lengths`, `bodies`, `read` and `streams`, and the full volumes. The rows of [flash images], [rejected images],
-[checked images], [unfit], [extents] and [values] are for tests/python/test_rows.py, and the rows of [data] for
-tests/python/test_trees.py, which need the library.
+[checked images], [unfit], [extents], [values] and [data] are for tests/python/test_rows.py, which needs the library. It
+also makes these runs by calls of the library.
 
 The number of rows has to be ROWS, so that no row gets lost unnoticed."""
 

@@ -8,7 +8,6 @@ prints them for each FILE, with digits in place of bytes."""
 from __future__ import annotations
 
 import collections
-import functools
 import itertools
 import sys
 import uuid
@@ -157,11 +156,6 @@ def compare(first: bytes, second: bytes) -> Said:
     return int(found is not None), text([found or "same"])
 
 
-def extract(row: int, data: bytes) -> Said:
-    """Makes the output of `extract` for a row of the tree."""
-    return 0, fv.volume_extract(data, row)
-
-
 def front(data: bytes) -> bytes:
     """Returns the volume with which some data begin, or all of the data if they do not begin with a volume."""
     header = outcome(fv.header_read, data)
@@ -216,16 +210,27 @@ def made_by(command: str, data: bytes) -> Said:
     return caught(COMMANDS[command], data, "hob " if command == "hobs" else "")
 
 
+def extract(data: bytes, words: list[str]) -> Said:
+    """Returns what `extract` writes with these arguments, for a part of any file that is not a security core."""
+    volume = front(data)
+    nodes = outcome(fv.volume_tree, volume)
+    if isinstance(nodes, fv.Fault):
+        return 2, text([fault_text(nodes)])
+    named = {" ".join(it): row for row, it in parts(nodes)}
+    if (row := named.get(" ".join(words))) is not None:
+        return caught(lambda it: (0, fv.volume_extract(it, row)), volume)
+    file = named.get(" ".join(words[:2]))
+    return 1, text(["not found" if file is None or nodes[file].content is fv.Content.SECTIONS else "not sectioned"])
+
+
 def outputs(data: bytes) -> Iterator[tuple[list[str], Said]]:
     """Yields what each command with one input writes about some data: its words, and the output."""
     for command in COMMANDS:
         yield command.split(), made_by(command, data)
-    volume = front(data)
-    nodes = outcome(fv.volume_tree, volume)
-    named: Iterator[tuple[int, list[str]]]
-    named = iter([(0, ["--name", str(uuid.UUID(int=0))])]) if isinstance(nodes, fv.Fault) else parts(nodes)
-    for row, words in itertools.islice(named, EXTRACTED):
-        yield ["extract", *words], caught(functools.partial(extract, row), volume)
+    nodes = outcome(fv.volume_tree, front(data))
+    named = () if isinstance(nodes, fv.Fault) else itertools.islice(parts(nodes), EXTRACTED)
+    for words in [*(words for _, words in named), ["--name", str(uuid.UUID(int=0))]]:
+        yield ["extract", *words], extract(data, words)
 
 
 def main() -> None:

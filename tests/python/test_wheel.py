@@ -143,7 +143,7 @@ class Wheel(RoomCase):
         paths = f"{ROOT}:{ROOT / 'crates/fv_run_tests/rows'}"
         # LIBFV names the library for the folder, and the archive contains it.
         for source, library, tests in (
-            (FOLDER, str(LIBRARY), ("test_package", "test_trees.Inputs")),
+            (FOLDER, str(LIBRARY), ("test_package", "test_rows.Inputs")),
             (self.archive, "", ("test_command",)),
         ):
             self.run_outside(*pip, "install", "--no-build-isolation", source, LIBFV=library)
