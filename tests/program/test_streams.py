@@ -6,6 +6,7 @@ are the same in all three cases, and if standard error takes nothing."""
 
 from __future__ import annotations
 
+import contextlib
 import os
 import pty
 import re
@@ -99,15 +100,6 @@ class Streams(RoomCase):
         Path("\udcff").mkdir()
         Path("\udcff/program").symlink_to(PROGRAM)
         self.ends(0, LISTED, r"""$'\xff/program' list --hex "$V" """)
-
-    def test_wrong_arguments_and_files(self) -> None:
-        """Standard error names what is wrong. The first input is read before the second."""
-        self.ends(3, "wrong words", '"$P" lists', f"fvtool: unknown command 'lists' {HELP}")
-        self.ends(3, "wrong words", r'''"$P" list $'\xff' ''', "fvtool: argument 2 is not UTF-8")
-        missing = "fvtool: no-such-file: no such file"
-        self.ends(2, FAULT, '"$P" normalise no-such-file', missing)
-        both = f"{missing}\nfvtool: nor-this: no such file"
-        self.ends(2, f"first {FAULT}", '"$P" compare no-such-file nor-this', both)
 
     def test_file_that_may_not_be_read(self) -> None:
         """Root may read any file, so another user runs a copy of the program."""
@@ -315,14 +307,9 @@ def new_terminal() -> tuple[int, int]:
 def read_until(ours: int, ends: bytes | None) -> bytes:
     """Returns the text that a terminal shows, until its other end is closed or a given text has appeared."""
     shown = b""
-    while ends is None or not shown.endswith(ends):
-        try:
-            part = os.read(ours, 4096)
-        except OSError:  # the other end is closed
-            return shown
-        if not part:
-            return shown
-        shown += part
+    with contextlib.suppress(OSError):  # the other end is closed
+        while ends is None or not shown.endswith(ends):
+            shown += os.read(ours, 4096)
     return shown
 
 

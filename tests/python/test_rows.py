@@ -92,7 +92,8 @@ class Rows(unittest.TestCase):
                 if (found := made_by_calls(run)) is not None:
                     tried += 1
                     with self.subTest(name, label=run.label[:300], words=run.arguments):
-                        self.assertEqual((found[0], run.look(found[1])), (run.status, run.output))
+                        # (assertEqual would take minutes to show how long texts differ.)
+                        self.assertTrue((found[0], run.look(found[1])) == (run.status, run.output), found[1][:300])
         self.assertGreater(tried, 4000)
 
     def test_rejected(self) -> None:
