@@ -126,15 +126,12 @@ class Commands(MemoryCase):
                 self.assertIn((done.status, done.output), [(2, f"{it}\n") for it in lines], f"allocation {at} refused")
             self.assertGreater(at, 1, "no allocation was refused")
 
-    def test_bytes(self) -> None:
+    def test_runs(self) -> None:
         for lines, command in RUNS:
-            self.refuse_each(lines, *command.split())
+            name, *words = command.split()
+            self.refuse_each(lines, name, *words)
+            self.refuse_each(lines, name, "--hex", *(f"{it}.hex" if it in INPUTS else it for it in words))
         self.refuse_each(WANT, "normalise", "no-such-file")
-
-    def test_text(self) -> None:
-        for lines, command in RUNS:
-            name, *words = (f"{it}.hex" if it in INPUTS and at else it for at, it in enumerate(command.split()))
-            self.refuse_each(lines, name, "--hex", *words)
 
     def test_messages(self) -> None:
         """A message follows the line. Each allocation that is refused before the line is reported in its place. The

@@ -38,8 +38,6 @@ FILES = {path.stem: rows.tables(path.stem) for path in sorted(rows.FOLDER.glob("
 RUNS = ["normalise", "extract", "scan", "hobs", "list", "sums", "check", "cells", "unfix", "compare", "placed", "text"]
 # The files of the crate's tests that have rows.
 TESTS = ["volumes", "command/other_runs", "command/opened_runs"]
-# The commands that have another name in the rows than in the program.
-COMMANDS = {"normalise-all": ["normalise", "--all"], "check-all": ["check", "--all"], "list-sums": ["list", "--sums"]}
 NAME = "0a0a0a0a-0a0a-0a0a-0a0a-0a0a0a0a0a0a"
 # A function that returns the part of an output that is compared.
 Look = Callable[[bytes], object]
@@ -97,10 +95,10 @@ def options(name: str, words: list[str]) -> list[str]:
 
 
 def arguments(command: str, is_hex: bool, first: str | None) -> list[str]:
-    """Returns the arguments that a command means. Its first input is the file `first`, or standard input if there is
-    none. Its second input is the file `second`."""
+    """Returns the arguments that a command means: `check-all` is `check --all`. Its first input is the file `first`, or
+    standard input if there is none. Its second input is the file `second`."""
     name, *words = command.split()
-    found = [*COMMANDS.get(name, [name]), *options(name, words), *["--hex"] * is_hex]
+    found = [*name.replace("-", " --").split(), *options(name, words), *["--hex"] * is_hex]
     return found + [it for it in (first, "second" if name == "compare" else None) if it]
 
 

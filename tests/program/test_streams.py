@@ -356,9 +356,9 @@ class Terminal(RoomCase):
         Path("short").write_bytes(b"abc")
         Path("fixed").write_bytes(rows.spelled("file-fixed"))
 
-    def try_cases(self, cases: list[Case]) -> None:
-        """Checks the results of runs whose standard error is a terminal, a pipe and a file."""
-        for it in cases:
+    def test_cases(self) -> None:
+        """Standard error is a terminal, a pipe and a file."""
+        for it in [*wrong_cases(), *rejection_cases(), *file_cases(), *other_cases()]:
             with self.subTest(it.words, typed=it.typed), tempfile.TemporaryFile() as file:
                 logged = it.said if it.elsewhere is None else it.elsewhere
                 self.assertEqual(run(it), (it.status, it.written, it.said), "at a terminal")
@@ -366,18 +366,6 @@ class Terminal(RoomCase):
                 self.assertEqual(run(it, file), (it.status, it.written, ""), "with a file")
                 file.seek(0)
                 self.assertEqual(file.read().decode(), logged, "in a file")
-
-    def test_wrong_arguments(self) -> None:
-        self.try_cases(wrong_cases())
-
-    def test_rejected_inputs(self) -> None:
-        self.try_cases(rejection_cases())
-
-    def test_files_that_cannot_be_read(self) -> None:
-        self.try_cases(file_cases())
-
-    def test_other_runs(self) -> None:
-        self.try_cases(other_cases())
 
     def test_both_streams(self) -> None:
         cut = rejection_cases()[0]

@@ -165,15 +165,10 @@ def front(data: bytes) -> bytes:
 def outer(nodes: Sequence[fv.Node]) -> Iterator[tuple[int, fv.Node, fv.Node]]:
     """Yields the files of a volume and their sections, without the contents of nested volumes: the number of each row,
     the row, and the row of its file."""
-    inside, file = None, nodes[0]
+    files: dict[int | None, fv.Node] = {}
     for row, node in enumerate(nodes):
-        if inside is not None and node.depth > inside:
-            continue
-        is_nested = node.kind is fv.NodeKind.VOLUME and node.depth > 0
-        inside = node.depth if is_nested else None
-        if node.kind is fv.NodeKind.FILE:
-            file = node
-        if node.kind is not fv.NodeKind.VOLUME:
+        if node.depth == 1 or node.kind is fv.NodeKind.SECTION and node.parent in files:
+            files[row] = file = node if node.depth == 1 else files[node.parent]
             yield row, node, file
 
 
