@@ -39,26 +39,13 @@ INPUTS = {
 WANT = ["fault 24 at 0"]
 SIDES, HOBS = [*WANT, "first fault 24 at 0", "second fault 24 at 0"], [*WANT, "hob fault 6 at 0"]
 NAME = "0a0a0a0a-0a0a-0a0a-0a0a-0a0a0a0a0a0a"
+EXTRACT = f"extract --name {NAME}"
+WHOLE = ("normalise", "normalise --all", "list", "list --sums", "cells", "unfix", "scan", "check", EXTRACT)
 RUNS = [
-    (WANT, "normalise volume"),
-    (WANT, "normalise --all volume"),
-    (WANT, "list volume"),
-    (WANT, "list --sums volume"),
-    (WANT, "cells volume"),
-    (WANT, "unfix volume"),
-    (WANT, "scan volume"),
-    (WANT, "scan both"),
-    (WANT, "check volume"),
-    (WANT, "check depex"),
-    (WANT, "check --all both"),
-    (WANT, f"extract --name {NAME} --section 19 volume"),
-    (WANT, f"extract --name {NAME} volume"),
-    (SIDES, "compare volume depex"),
-    (SIDES, "compare volume volume"),
-    (SIDES, "compare first second"),
-    (SIDES, "compare first first"),
-    (HOBS, "hobs list"),
-    (HOBS, "hobs --image volume --base 16711680 list"),
+    *((WANT, f"{command} volume") for command in (*WHOLE, f"{EXTRACT} --section 19")),
+    *((WANT, command) for command in ("scan both", "check depex", "check --all both")),
+    *((SIDES, f"compare {names}") for names in ("volume depex", "volume volume", "first second", "first first")),
+    *((HOBS, f"hobs {words}list") for words in ("", "--image volume --base 16711680 ")),
 ]
 # The crates of tests that have tests of failed allocations, which are in files memory.rt, and their built tests.
 FILES_OF_TESTS = sorted(ROOT.glob("crates/*/src/*/memory.rt"))

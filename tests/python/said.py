@@ -212,7 +212,8 @@ def extract(data: bytes, words: list[str]) -> Said:
     if isinstance(nodes, fv.Fault):
         return 2, text([fault_text(nodes)])
     named = {" ".join(it): row for row, it in parts(nodes)}
-    if (row := named.get(" ".join(words))) is not None:
+    if " ".join(words) in named:
+        row = named[" ".join(words)]
         return caught(lambda it: (0, fv.volume_extract(it, row)), volume)
     file = named.get(" ".join(words[:2]))
     return 1, text(["not found" if file is None or nodes[file].content is fv.Content.SECTIONS else "not sectioned"])

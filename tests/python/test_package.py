@@ -33,7 +33,6 @@ from typing import Any
 import fv
 import rows
 from fv import _errors, _library, _native, names
-from tests import making
 from tests.checks import ROOT, read
 from tests.frame import RoomCase, needs_library, needs_tool
 from tests.python.outcomes import OF_IMAGE, OF_VOLUME, Call, grouped, outcome, raised, volume_of
@@ -42,7 +41,6 @@ PACKAGE = Path(fv.__file__).parent
 HEADER = read(ROOT / "libfv/include/fv.h")
 CC = os.environ.get("CC", "cc")
 A, B = uuid.UUID(int=1), uuid.UUID(int=2)
-NAME = uuid.UUID(bytes=b"\x0a" * 16)
 # An expression that is true if both GUIDs are installed.
 BOTH = b"\2" + A.bytes_le + b"\2" + B.bytes_le + b"\3\10"
 # A file with one section, whose body is one byte, and a volume of this file.

@@ -111,11 +111,6 @@ def debug(value: Any, is_option: bool = False) -> str:
     return f"Guid({value})" if isinstance(value, uuid.UUID) else str([*value] if isinstance(value, bytes) else value)
 
 
-def digest(value: bytes) -> str:
-    """Returns a digest as `Debug` of Rust shows it."""
-    return f"Digest({value.hex()})"
-
-
 def result_of(call: str, arguments: tuple[Any, ...]) -> str:
     """Returns the result of a call of the package as `Debug` of Rust shows it."""
     if call == "depex_evaluate":
@@ -127,13 +122,13 @@ def result_of(call: str, arguments: tuple[Any, ...]) -> str:
     except IndexError:
         return "Err(NoSuchRow)"
     if call == "volume_tree_digests":
-        rest = (f"Some({digest(it)})" if it else "None" for it in found)
+        rest = (f"Some(Digest({it.hex()}))" if it else "None" for it in found)
         return f"Ok([{', '.join(f'NodeDigest {{ digest: {it} }}' for it in rest)}])"
     if call == "depex_evaluate":
         return f"Ok({'Order' if found is None else found})"
     if call == "volume_compare":
         return f'Ok(Some("{found}"))' if found else "Ok(None)"
-    return f"Ok({digest(found) if call == 'volume_digest' else debug(found)})"
+    return f"Ok(Digest({found.hex()}))" if call == "volume_digest" else f"Ok({debug(found)})"
 
 
 class Types(unittest.TestCase):
