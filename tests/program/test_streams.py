@@ -192,19 +192,6 @@ def wrong_cases() -> list[Case]:
     return found
 
 
-@dataclass(frozen=True)
-class Rejection:
-    """An input that is rejected: the words of the rows that spell it, the command, in which FILE is the input and
-    VOLUME a volume as text, the fault, and what to do next. The meaning of the fault is in FAULTS, unless it is
-    given."""
-
-    spelling: str
-    command: str
-    fault: str
-    step: str
-    meaning: str = ""
-
-
 SOURCE = "compare the input with its source"
 OFFSET = "the offset shows where: man fvtool lists the faults"
 LOOK = "fvtool scan FILE finds volumes, fv-unpack --list FILE looks further"
@@ -215,27 +202,29 @@ NO_IMAGE = "fvtool list and fvtool compare need no image"
 LONG_HEADER = "00*16 78e58c8c3d8a1c4f9935896185c32dd3 80 00*7 5f465648fffe0400 4008cef500000002 0100000080000000 00*8"
 LENGTH = "the length in the header of a volume is wrong"
 TWO, FOLLOW = "two-sections two-sections", "bytes follow the volume"
-REJECTIONS = [
-    Rejection("616263", "list FILE", "fault 1 at 3", "is the file whole? fvtool scan FILE finds volumes"),
-    Rejection("ff*64", "check FILE", "fault 2 at 40", LOOK),
-    Rejection("head-file-system", "list FILE", "fault 3 at 16", LOOK),
-    Rejection(f"H256 0a*16 b9aa0b009c0000f884000017 {LONG_HEADER} ff*84", "list FILE", "fault 1 at 228", SOURCE),
-    Rejection("head-sum-off-by-one", "list FILE", "fault 6 at 0", SOURCE),
-    Rejection("head-length-over-256m", "list FILE", "fault 8 at 32", SOURCE, LENGTH),
-    Rejection(TWO, "check FILE", "fault 8 at 128", "try --at 0, or --all", FOLLOW),
-    Rejection(TWO, "normalise FILE", "fault 8 at 128", "try --at 0, or --all", FOLLOW),
-    Rejection(TWO, "unfix FILE", "fault 8 at 128", "try --at 0", FOLLOW),
-    Rejection(TWO, "compare --hex FILE VOLUME", "first fault 8 at 128", "try --at 0", FOLLOW),
-    Rejection(TWO, "compare --hex VOLUME FILE", "second fault 8 at 128", "try --other-at 0", FOLLOW),
-    Rejection("file-header-sum", "list FILE", "fault 11 at 72", OFFSET),
-    Rejection("file-fixed", "list FILE", "fault 15 at 91", UNFIX),
-    Rejection("file-fixed", "normalise --all FILE", "fault 15 at 91", GOES_ON),
-    Rejection("nested-fixed-file", "list FILE", "fault 15 at 191", "fv-same, fv-unpack and fv-map read such volumes"),
-    Rejection("same-name-twice", "list FILE", "fault 17 at 96", "report it to whoever built the volume"),
-    Rejection("section-size-too-small", "list FILE", "fault 19 at 96", OFFSET),
-    Rejection("nine-groups", "list FILE", "fault 21 at 128", "treat the input as hostile"),
-    Rejection("ext-header-without-room", "normalise FILE", "fault 22 at 0", NO_IMAGE),
-    Rejection("top-misaligned", "normalise FILE", "fault 23 at 0", NO_IMAGE),
+# Inputs that are rejected: the words of the rows that spell each, the command, in which FILE is the input and VOLUME a
+# volume as text, the fault, and what to do next. The meaning of the fault is in FAULTS, unless it is given.
+REJECTIONS: list[tuple[str, ...]] = [
+    ("616263", "list FILE", "fault 1 at 3", "is the file whole? fvtool scan FILE finds volumes"),
+    ("ff*64", "check FILE", "fault 2 at 40", LOOK),
+    ("head-file-system", "list FILE", "fault 3 at 16", LOOK),
+    (f"H256 0a*16 b9aa0b009c0000f884000017 {LONG_HEADER} ff*84", "list FILE", "fault 1 at 228", SOURCE),
+    ("head-sum-off-by-one", "list FILE", "fault 6 at 0", SOURCE),
+    ("head-length-over-256m", "list FILE", "fault 8 at 32", SOURCE, LENGTH),
+    (TWO, "check FILE", "fault 8 at 128", "try --at 0, or --all", FOLLOW),
+    (TWO, "normalise FILE", "fault 8 at 128", "try --at 0, or --all", FOLLOW),
+    (TWO, "unfix FILE", "fault 8 at 128", "try --at 0", FOLLOW),
+    (TWO, "compare --hex FILE VOLUME", "first fault 8 at 128", "try --at 0", FOLLOW),
+    (TWO, "compare --hex VOLUME FILE", "second fault 8 at 128", "try --other-at 0", FOLLOW),
+    ("file-header-sum", "list FILE", "fault 11 at 72", OFFSET),
+    ("file-fixed", "list FILE", "fault 15 at 91", UNFIX),
+    ("file-fixed", "normalise --all FILE", "fault 15 at 91", GOES_ON),
+    ("nested-fixed-file", "list FILE", "fault 15 at 191", "fv-same, fv-unpack and fv-map read such volumes"),
+    ("same-name-twice", "list FILE", "fault 17 at 96", "report it to whoever built the volume"),
+    ("section-size-too-small", "list FILE", "fault 19 at 96", OFFSET),
+    ("nine-groups", "list FILE", "fault 21 at 128", "treat the input as hostile"),
+    ("ext-header-without-room", "normalise FILE", "fault 22 at 0", NO_IMAGE),
+    ("top-misaligned", "normalise FILE", "fault 23 at 0", NO_IMAGE),
 ]
 
 
@@ -244,12 +233,12 @@ def rejection_cases() -> list[Case]:
     table = read(ROOT / "docs/FAULTS.md").partition("## What each fault means for you")[2].partition("\n## ")[0]
     meanings = dict(re.findall(r"(?m)^\| (\d+) \| (.*?) \|", table))
     found: list[Case] = []
-    for number, it in enumerate(REJECTIONS):
-        data = rows.spelled(it.spelling)
-        Path(str(number)).write_bytes(data.hex().encode() if "--hex" in it.command else data)
-        words = [{"FILE": str(number), "VOLUME": VOLUME}.get(word, word) for word in it.command.split()]
-        sentence = it.meaning or meanings[it.fault.split()[-3]]
-        found.append(Case(words, 2, f"{it.fault}\n", meaning(sentence, it.step, str(number))))
+    for number, (spelling, command, fault, step, *given) in enumerate(REJECTIONS):
+        data = rows.spelled(spelling)
+        Path(str(number)).write_bytes(data.hex().encode() if "--hex" in command else data)
+        words = [{"FILE": str(number), "VOLUME": VOLUME}.get(word, word) for word in command.split()]
+        (sentence,) = given or [meanings[fault.split()[-3]]]
+        found.append(Case(words, 2, f"{fault}\n", meaning(sentence, step, str(number))))
     return found
 
 

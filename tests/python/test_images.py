@@ -96,12 +96,10 @@ class Images(unittest.TestCase):
         # Reads a volume with fixed files. Its bytes and the bodies of its files are slices of the image.
         data = made.flash(made.volume([made.A, FIXED, made.GONE, made.C]))
         (volume,) = images.read(data).volumes
-        self.assertIsNone(volume.fault)
-        self.assertEqual(len(volume.files), 3)
+        self.assertEqual((volume.fault, len(volume.files), volume.is_marked), (None, 3, True))
         self.assertEqual(volume.body, data[4096 : 4096 + volume.length])
         self.assertEqual([data[it.offset - it.header_length + 19] for it in volume.fixed], [made.FIXED])
         free = made.volume([made.A, made.file(made.guid(4), made.noise("d", 777)), made.C])
-        self.assertTrue(volume.is_marked)
         self.assertTrue(volume.plain != volume.body)
         self.assertIsNone(fv.volume_compare(volume.plain, free))
         for it in volume.files:
@@ -111,9 +109,7 @@ class Images(unittest.TestCase):
         self.assertTrue(all(len(it.fixed) == 1 for it in many))
         self.assertEqual(len({id(it.data) for it in many}), 1)
         (volume,) = images.read(made.IMAGES["damaged.fd"]()).volumes[:1]
-        self.assertEqual(str(volume.fault), "fault 11 at 4168")
-        self.assertEqual(volume.files, [])
-        self.assertIsNone(volume.guid)
+        self.assertEqual((str(volume.fault), volume.files, volume.guid), ("fault 11 at 4168", [], None))
         (volume,) = images.read(made.IMAGES["fixed-inside.fv"]()).volumes
         inner = volume.files[0].sections[0].volume
         self.assertIsNone(volume.fault)

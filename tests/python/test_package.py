@@ -288,7 +288,9 @@ class Values(unittest.TestCase):
         # The output of `sha256sum` for the bytes b1, b2 and b3.
         digest = "0de80e00e7763e2e4197607b23278a56debaac84613f97f439a670286d04866c"
         self.assertEqual(fv.volume_tree_digests(data)[6], bytes.fromhex(digest))
-        wrong = grouped(40)
+
+    def test_other_rows(self) -> None:
+        data, wrong = grouped(), grouped(40)
         fault = fv.Fault(fv.FaultCode.SECTION_SIZE, 116, 1, 1)
         self.assertEqual(outcome(fv.volume_compare, data, wrong), fault)
         # The row of a rejected volume has its fault.
@@ -300,7 +302,8 @@ class Values(unittest.TestCase):
         listed = fv.hobs_read(hob(1, 56) + hob(5, 24, struct.pack("<QQ", 64, 4096)) + hob(0xFFFF, 8) + b"more")
         blocks = [fv.Hob(None, None, 1, 56), fv.Hob(64, 4096, 5, 24), fv.Hob(None, None, 0xFFFF, 8)]
         self.assertEqual((listed.length, listed.blocks), (88, blocks))
-        values = [header, found[0], cells[0], blocks[0], fv.image_check(data + wrong)[1], listed]
+        firsts = [call(data)[0] for call in (fv.image_scan, fv.volume_tree, fv.volume_cells)]
+        values = [*firsts, listed.blocks[0], fv.image_check(data + wrong)[1], listed]
         self.assertTrue(all(map(is_frozen, values)) and len({*values[:5]}) == 5)
         self.assertTrue(all(copied == value for value in values for copied in again(value)))
 
@@ -350,7 +353,7 @@ class Buffers(unittest.TestCase):
     """Each kind of buffer is read, and no buffer is changed."""
 
     def test_kinds(self) -> None:
-        image, tree = fv.volume_normalise(VOLUME), fv.volume_tree(VOLUME)
+        wanted = {call: call(VOLUME) for call in (*OF_VOLUME, *OF_IMAGE, fv.header_read)}
         with tempfile.TemporaryFile() as file:
             file.write(VOLUME)
             file.flush()
@@ -363,15 +366,10 @@ class Buffers(unittest.TestCase):
             kinds += [pickle.PickleBuffer(VOLUME), view.toreadonly()]
             for data in kinds:
                 for copied in (False, True):
-                    self.assertEqual(fv.volume_normalise(data, copy=copied), image)
-                    self.assertEqual(fv.volume_tree(data, copy=copied), tree)
-                    self.assertEqual(fv.volume_unfix(data, copy=copied), VOLUME)
-                    self.assertEqual(fv.volume_digest(data, copy=copied), hashlib.sha256(image).digest())
-                    self.assertIsNone(fv.volume_compare(data, image, copy=copied))
-                    self.assertIsNone(fv.volume_compare(image, data, copy=copied))
-                    self.assertEqual([it.offset for it in fv.image_scan(data, copy=copied)], [0])
+                    self.assertEqual({call: call(data, copy=copied) for call in wanted}, wanted)
+                    self.assertIsNone(fv.volume_compare(data, VOLUME, copy=copied))
+                    self.assertIsNone(fv.volume_compare(VOLUME, data, copy=copied))
                     self.assertEqual(fv.volume_extract(data, 2, copy=copied), b"z")
-                    self.assertEqual(len(fv.volume_cells(data, copy=copied)), 1)
                 self.assertEqual(bytes(memoryview(data)), VOLUME)
             del data, kinds[:]
             for it in maps:
