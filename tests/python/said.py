@@ -22,6 +22,8 @@ from tests.python.outcomes import outcome
 Said = tuple[int, bytes]
 # The phases of the types of sections with dependency expressions.
 PHASES = {0x13: fv.Phase.DXE, 0x1B: fv.Phase.PEI, 0x1C: fv.Phase.DXE}
+# The text that the program writes about an accepted volume that is its own image, or another one.
+VERDICTS = {True: "canonical", False: "not canonical"}
 # How many parts of a volume are extracted.
 EXTRACTED = 10
 
@@ -44,16 +46,11 @@ def caught(make: Callable[[bytes], Said], data: bytes, before: str = "") -> Said
         return 2, text([before + fault_text(error.fault)])
 
 
-def verdict(is_canonical: bool) -> str:
-    """Returns the text that the program writes about an accepted volume."""
-    return "canonical" if is_canonical else "not canonical"
-
-
 def check_all(data: bytes) -> Said:
     """Makes the output of `check --all`."""
     lines, worst = [], 0
     for it in fv.image_check(data):
-        found = fault_text(it.fault) if it.fault else verdict(it.canonical)
+        found = fault_text(it.fault) if it.fault else VERDICTS[it.canonical]
         worst = max(worst, 2 if it.fault else int(not it.canonical))
         lines.append(f"volume at {it.offset} length {it.length} {found}")
     return worst, text(lines)
@@ -62,7 +59,7 @@ def check_all(data: bytes) -> Said:
 def check(data: bytes) -> Said:
     """Makes the output of `check`."""
     is_canonical = fv.volume_is_canonical(data)
-    return int(not is_canonical), text([*pad_notes(data), *expression_notes(data), verdict(is_canonical)])
+    return int(not is_canonical), text([*pad_notes(data), *expression_notes(data), VERDICTS[is_canonical]])
 
 
 def pad_notes(data: bytes) -> Iterator[str]:
@@ -83,11 +80,6 @@ def expression_notes(data: bytes) -> Iterator[str]:
             fault = outcome(fv.depex_evaluate, body, PHASES[node.efi_type])
             if isinstance(fault, fv.Fault):
                 yield f"note depex in {file.guid} {fault_text(fault)}"
-
-
-def scan(data: bytes) -> Said:
-    """Makes the output of `scan`."""
-    return 0, text([f"volume at {it.offset} length {it.length}" for it in fv.image_scan(data)])
 
 
 def cells(data: bytes) -> Said:
@@ -190,7 +182,7 @@ COMMANDS: dict[str, Callable[[bytes], Said]] = {
     "unfix": lambda data: (0, fv.volume_unfix(data)),
     "check": check,
     "check --all": check_all,
-    "scan": scan,
+    "scan": lambda data: (0, text([f"volume at {it.offset} length {it.length}" for it in fv.image_scan(data)])),
     "cells": cells,
     "hobs": hobs,
     "list": listed,
