@@ -177,8 +177,10 @@ def inputs(given: argparse.Namespace) -> Iterator[Input]:
         "program": [(BOTH | FOR_PROGRAM, bytes, ("", size, ALL, 3 * max(given.mib / 16, 1)))],
         "speed": [(files or PLAIN, bytes, ("", size, ALL, math.inf))],
         "package": [
-            *[(SECTIONS | BOTH | FOR_PACKAGE, squeezed, small), (PACKED, bytes, small)],
-            *[(SECTIONS, holder, large), (BOTH | FOR_PACKAGE, bytes, large)],
+            (SECTIONS | BOTH | FOR_PACKAGE, squeezed, small),
+            (PACKED, bytes, small),
+            (SECTIONS, holder, large),
+            (BOTH | FOR_PACKAGE, bytes, large),
         ],
     }
     for table, shape, (before, length, parts, seconds) in tables[given.what][: 2 if given.brief else None]:

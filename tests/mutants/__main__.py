@@ -108,7 +108,7 @@ def is_of_contract(crate: Crate, edit: Edit, named: str) -> bool:
 def tries_of(crate: Crate, given: argparse.Namespace) -> list[Try]:
     """Returns the edits of a crate to try, with their results if the results are known."""
     found, base, writes = [], crate.checksum(), given.write_goals
-    anew = given.anew or given.whole or given.write_lists
+    anew = given.whole or given.write_lists
     every = not given.crates or crate.name in given.crates
     is_chosen = not given.crates and not given.every and not writes and not given.write_lists
     named = (ROOT / "docs/STANDARD.md").read_text(encoding="utf-8")
@@ -151,7 +151,7 @@ def try_crate(crate: Crate, tries: list[Try], given: argparse.Namespace) -> None
     if new:
         crate.make()
         Judge(crate, new).run()
-        crate.remove()
+        shutil.rmtree(crate.copy, ignore_errors=True)
     base = crate.checksum()
     for each in new:
         if given.write_goals and not crate.checks.stopped:
@@ -235,12 +235,10 @@ def arguments() -> argparse.Namespace:
     reader.add_argument("crates", nargs="*", metavar="CRATE", help="a crate or one edit, CRATE/EDIT (else: all crates)")
     reader.add_argument("--jobs", type=int, default=jobs(), help="how many checks run side by side (now: %(default)s)")
     reader.add_argument("--every", action="store_true", help="tries also edits of private functions and of inner steps")
-    reader.add_argument("--anew", action="store_true", help="tries also what an earlier run has tried")
     reader.add_argument("--write-goals", action="store_true", help="writes the goal of each edit that has none")
     reader.add_argument("--write-lists", action="store_true", help="writes goals.txt, by the whole search")
     reader.add_argument("--whole", action="store_true", help="tries each edit by the whole search")
     reader.add_argument("--unnamed", action="store_true", help="lists the clauses that no edit's goal names")
-    reader.add_argument("--logs", type=pathlib.Path, metavar="FOLDER", help="keeps what each check says in this folder")
     return reader.parse_args()
 
 
@@ -260,7 +258,7 @@ def main() -> int:
     for number in (signal.SIGTERM, signal.SIGHUP, signal.SIGINT):
         signal.signal(number, lambda number, _: sys.exit(128 + number))
     sweep()
-    checks = Checks(given.logs)
+    checks = Checks()
     room = pathlib.Path(tempfile.mkdtemp(prefix=f"capstanolive-mutants-{os.getpid()}-"))
     try:
         return run(chosen, given, checks, room)

@@ -99,10 +99,10 @@ def calls_itself(name: str, body: list[str], in_type: bool) -> bool:
     return bool(re.search(rf"{before}{name}\(", "\n".join(line.partition("//")[0] for line in body)))
 
 
-def functions(file: str, text: str, types: dict[str, list[str]]) -> list[Function]:
-    """Returns the functions of a source that have bodies, in their order."""
-    lines, found, holder, cycle, in_trait, of_trait = text.split("\n"), [], "", "", False, False
-    parts = module_of(file)
+def functions(file: str, texts: dict[str, str]) -> list[Function]:
+    """Returns the functions of a crate's source that have bodies, in their order."""
+    lines, found, holder, cycle, in_trait, of_trait = texts.get(file, "").split("\n"), [], "", "", False, False
+    parts, types = module_of(file), homes(texts)
     for number, line in enumerate(lines):
         begins, is_cycle, holds = FUNCTION.match(line), CYCLE.match(line), HOLDER.match(line)
         if holds:
@@ -130,9 +130,8 @@ def functions(file: str, text: str, types: dict[str, list[str]]) -> list[Functio
 
 
 def around(file: str, texts: dict[str, str], line: int) -> Function | None:
-    """Returns the function that contains a line of a source. Attributes and comments above a function do not belong to
-    it."""
-    return next((it for it in functions(file, texts.get(file, ""), homes(texts)) if it.first <= line <= it.last), None)
+    """Returns the function that contains a line of a source, without the attributes and comments above a function."""
+    return next((it for it in functions(file, texts) if it.first <= line <= it.last), None)
 
 
 def stubbed(texts: dict[str, str], units: set[str]) -> dict[str, str]:
@@ -142,7 +141,7 @@ def stubbed(texts: dict[str, str], units: set[str]) -> dict[str, str]:
     found = dict(texts)
     for file in [it for it in texts if it.startswith("src/")]:
         lines, text, at = texts[file].split("\n"), list[str](), 0
-        for it in functions(file, texts[file], homes(texts)):
+        for it in functions(file, texts):
             if it.unit in units and " const fn " not in f" {lines[it.first]}" and it.body < it.last:
                 text += [*lines[at : it.head], *(line for line in lines[it.head : it.first] if not CYCLE.match(line))]
                 text += [*lines[it.first : it.body + 1], f"{indent_of(lines[it.first])}    loop {{}}"]

@@ -7,6 +7,7 @@ import dataclasses
 import re
 
 from tests.mutants.functions import indent_of
+from tests.sources.definitions import reached
 
 # The line that begins a declaration in a proof file, and the other lines that begin a part of a proof file.
 DECLARES = re.compile(r"(?:pub )?(\S+) : ")
@@ -84,13 +85,11 @@ def resting(text: str, name: str) -> set[str]:
     """Returns one declaration of a proof file, and the declarations that depend on it."""
     lines = text.split("\n")
     bodies = {it: "\n".join(lines[at:end]) for it, (at, end) in answers(text).items()}
-    found = {name}
-    while True:
-        names = "|".join(map(re.escape, found))
-        more = {it for it, body in bodies.items() if re.search(rf"(?<![\w.-])(?:{names})(?![\w-])", body)}
-        if more <= found:
-            return found
-        found |= more
+
+    def after(other: str) -> list[str]:
+        return [it for it, body in bodies.items() if re.search(rf"(?<![\w.-]){re.escape(other)}(?![\w-])", body)]
+
+    return reached([name], after)
 
 
 @dataclasses.dataclass(frozen=True)

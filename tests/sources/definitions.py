@@ -8,8 +8,9 @@ import functools
 import glob
 import os
 import re
-from collections.abc import Iterable, Iterator
+from collections.abc import Callable, Iterable, Iterator
 from dataclasses import dataclass
+from typing import TypeVar
 
 from tests.checks import read
 
@@ -17,6 +18,7 @@ from tests.checks import read
 # in this file.
 Place = tuple[str, str]
 Key = tuple[str, str, str]
+T = TypeVar("T")
 
 NAME = r"[^\W\d][\w\-']*"
 INNER = "inner."
@@ -131,13 +133,7 @@ def imports(text: str) -> Imports:
 
 def paragraphs(text: str) -> list[str]:
     """Returns the definitions of a specs file, each with its comment. A mutual block is one paragraph."""
-    found: list[str] = []
-    for part in text.rstrip("\n").split("\n\n"):
-        if found and part.startswith("  "):
-            found[-1] += "\n\n" + part
-        else:
-            found.append(part)
-    return found
+    return re.split(r"\n\n(?!  )", text.rstrip("\n"))
 
 
 def entries(paragraph: str) -> list[Entry]:
@@ -166,6 +162,17 @@ def entries(paragraph: str) -> list[Entry]:
 def defined(paragraph: str) -> list[str]:
     """Returns the names of the definitions in a paragraph."""
     return [word for entry in entries(paragraph) for word in entry.words]
+
+
+def reached(first: Iterable[T], after: Callable[[T], Iterable[T]]) -> set[T]:
+    """Returns some things, and all things that come after them."""
+    found, left = set[T](), [*first]
+    while left:
+        it = left.pop()
+        if it not in found:
+            found.add(it)
+            left += after(it)
+    return found
 
 
 class Words:
@@ -206,18 +213,12 @@ class Words:
 
     def closure(self, first: Iterable[Key]) -> set[Key]:
         """Returns some definitions, and all definitions that they reach."""
-        reached: set[Key] = set()
-        left = list(first)
-        while left:
-            key = left.pop()
-            if key in reached:
-                continue
-            reached.add(key)
-            crate, module, _ = key
-            group = self.groups[key]
-            left += [(crate, module, word) for word in group.words]
-            left += self.cited(group.text, self.imports[crate, module], (crate, module))
-        return reached
+
+        def after(key: Key) -> set[Key]:
+            place, group = key[:2], self.groups[key]
+            return self.cited(group.text, self.imports[place], place) | {(*place, word) for word in group.words}
+
+        return reached(first, after)
 
 
 def block(text: str, start: int) -> int:
