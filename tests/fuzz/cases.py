@@ -36,12 +36,11 @@ def changed(pick: random.Random, data: bytes) -> bytes:
 def mended(data: bytes, spans: Iterable[Span]) -> bytes:
     """Returns the bytes with right checksums in the volume header, and in the files that were at these places."""
     found = bytearray(data)
-    for span in spans:
-        start, after = span.start, span.start + span.header
-        if span.end <= len(found):
+    for start, after, end in spans:
+        if end <= len(found):
             state = found[start + 23]
             found[start + 16] = found[start + 17] = found[start + 23] = 0
-            sums = sum8(found[start:after]), data_sum(found[start + 19], found[after : span.end])
+            sums = sum8(found[start:after]), data_sum(found[start + 19], found[after:end])
             found[start + 16 : start + 18], found[start + 23] = bytes(sums), state
     if len(found) >= 64:
         found[50:52] = bytes(2)

@@ -167,15 +167,10 @@ def check_volume(program: Program, case: Case) -> str:
     return "accepted"
 
 
-def places_in(text: bytes) -> list[Extent]:
-    """Returns the places of the volumes in the output of `scan`."""
-    return [Extent(int(offset), int(length)) for offset, length in re.findall(rb"at (\d+) length (\d+)", text)]
-
-
 def check_places(program: Program, case: Case, text: bytes) -> None:
     """Checks the output of `scan`: the volumes are at multiples of 8, they follow one another, and each of them is also
     found on its own."""
-    places = places_in(text)
+    places = [Extent(int(offset), int(length)) for offset, length in re.findall(rb"at (\d+) length (\d+)", text)]
     require(text == joined(f"volume at {it.offset} length {it.length}" for it in places), "scan: other text", text)
     end = 0
     for place in places:
