@@ -131,8 +131,7 @@ def alike(data: bytes, size: int, parts: int) -> bytes:
 
 
 def summed_heads(size: int, _parts: int) -> bytes:
-    """Makes a header of 2112 bytes with a right checksum at each multiple of 40. Its block map lacks the pair of
-    zeros."""
+    """Makes a header of 2112 bytes with a right checksum, and no pair of zeros, at each multiple of 40."""
     cycle = b"_FVH" + struct.pack("<IHHHBB", 0x800, 2112, 0, 0, 0, 2) + FFS3 + struct.pack("<Q", 2112)
     rest = sum16((cycle * 53)[:2112])  # the 53 checksums in a header are to add up to this
     cycle = cycle[:10] + struct.pack("<H", rest * pow(53, -1, 1 << 16) & 0xFFFF) + cycle[12:]
@@ -140,8 +139,7 @@ def summed_heads(size: int, _parts: int) -> bytes:
 
 
 def extended(entry: bytes, count: int) -> Make:
-    """Makes a volume with volumes in sections, each with an extended header that has this entry as often as `count`
-    says."""
+    """Makes a volume with volumes in sections, whose extended headers have this entry as often as `count` says."""
     ext = bytes(16) + struct.pack("<I", 20 + len(entry) * count) + entry * count
     ext += b"\xff" * (-len(ext) % 8)
     return file_of(in_section(header(72 + len(ext), 72, FFS3) + ext))

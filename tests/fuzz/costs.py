@@ -89,8 +89,7 @@ class Most:
 
 @dataclass(frozen=True)
 class Cost:
-    """The cost of a run: its exit status, its seconds of processor time, its peak of memory and its output in bytes,
-    and the last line of its standard error."""
+    """The cost of a run: its status, processor time, peak of memory, bytes of output, and last line of errors."""
 
     status: int
     seconds: float
@@ -189,8 +188,7 @@ def inputs(given: argparse.Namespace) -> Iterator[Input]:
 
 
 def measure(command: str, image: Path, other: Path, given: argparse.Namespace, most: Most) -> Cost:
-    """Runs a command over an input, and returns its cost, or the least cost of some runs. The files that it writes
-    count as output."""
+    """Runs a command over an input, and returns its least cost. The files that it writes count as output."""
     with tempfile.TemporaryDirectory(dir=image.parent) as folder:
         places = {"IMAGE": image, "OTHER": other, "COPY": f"{image}-copy", "FOLDER": Path(folder, "parts")}
         name, *words = (str(places.get(it, it)) for it in command.split())
@@ -223,8 +221,7 @@ def try_input(it: Input, commands: list[str], given: argparse.Namespace) -> int:
 
 
 def measured(data: bytes, runs: int, calls: int) -> dict[str, float]:
-    """Returns the least time in microseconds of each call that takes a volume: the time of the fastest run, divided by
-    the number of its calls. The volume is compared with a copy of itself."""
+    """Returns the least time in microseconds of each call that takes a volume, over some runs of so many calls."""
     names = [it for it in fv.__all__ if re.match("header_|image_|volume_(?!compare|extract)", it)]
     timed: dict[str, Callable[[], Any]] = {name: partial(getattr(fv, name), data) for name in names}
     timed["volume_compare"] = partial(fv.volume_compare, data, bytes(bytearray(data)))

@@ -30,8 +30,7 @@ class Image:
 
 @dataclass(frozen=True)
 class Block:
-    """A block of a hand-off list: its type, the bytes after its header, and the word that `hobs` writes of its
-    volume."""
+    """A block of a hand-off list: its type, the bytes after its header, and what `hobs` writes of its volume."""
 
     kind: int
     payload: bytes

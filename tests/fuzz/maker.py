@@ -331,8 +331,7 @@ class Maker:
         self.put_file(body, name, kind, attributes, content, state)
 
     def superseded(self, body: Body, name: bytes) -> bytes:
-        """Returns a file marked for update. Another file has the same name. The program reads only the checksum of its
-        data."""
+        """Returns a file marked for update, whose name another file has. Only the checksum of its data is read."""
         kind, attributes = self.pick.choice(STREAMS + PLAIN), self.attributes(body)
         return self.file(body, name, kind, attributes, self.dust.randbytes(self.pick.randrange(40)), MARKED)
 

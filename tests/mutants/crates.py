@@ -159,8 +159,7 @@ class Checks:
         self.lock, self.stopped, self.count = threading.Lock(), False, 0
 
     def run(self, words: list[str], folder: pathlib.Path) -> tuple[int, str]:
-        """Runs one check. Returns its status and its output. The command `timeout` ends the check and all that it
-        started after LIMIT seconds, or when it is ended itself."""
+        """Runs one check for at most LIMIT seconds. Returns its status and its output."""
         how: dict[str, typing.Any] = {"stdin": subprocess.DEVNULL, "stdout": subprocess.PIPE}
         how.update(stderr=subprocess.STDOUT, cwd=folder, text=True, errors="replace")
         with self.lock:

@@ -77,8 +77,7 @@ def applied(changes: tuple[Change, ...], texts: dict[str, str]) -> dict[str, str
 
 
 def changed(edit: Edit, texts: dict[str, str]) -> list[Function] | None:
-    """Returns the functions that an edit changes, or nothing if the edit changes text outside of functions and
-    imports."""
+    """Returns the functions that an edit changes, or nothing if it changes more than functions and imports."""
     found: dict[str, Function] = {}
     now = texts
     for change in edit.changes:
@@ -166,8 +165,7 @@ class Try:
         return self.left.goal if self.left else self.edit.goal
 
     def is_wanted(self, goal: str) -> bool:
-        """Returns whether a goal has to stay open. If the answer of that goal is left out, the goal may be open in
-        parts."""
+        """Returns whether a goal has to stay open. It may be open in parts if its answer is left out."""
         return goal == self.wanted or bool(self.left) and goal.startswith(f"{self.wanted}-")
 
     def ends(self, grade: str, said: str = "", goal: str = "") -> None:
@@ -197,8 +195,7 @@ def key_of(base: str, path: pathlib.Path) -> str:
 
 
 def keep(each: Try, base: str) -> None:
-    """Keeps the result of an edit, if the edit was rejected and nothing has changed since. (--write-goals may have
-    written a line of the edit.)"""
+    """Keeps the result of a rejected edit, unless --write-goals has written a line of the edit since."""
     if each.grade in REJECTED and base == each.base:
         CACHE.mkdir(parents=True, exist_ok=True)
         with tempfile.NamedTemporaryFile("w", dir=CACHE, prefix="new-", delete=False) as file:
@@ -207,8 +204,7 @@ def keep(each: Try, base: str) -> None:
 
 
 def write_goal(each: Try) -> None:
-    """Writes the line `goal:` of an edit, with the goal that was found open, unless this goal may belong to a branch
-    that the edit does not change."""
+    """Writes the line `goal:` of an edit, unless the open goal may belong to a branch that does not change."""
     if each.grade not in REJECTED or each.edit.goal:
         return
     if each.moved and each.grade != FALSE:

@@ -93,8 +93,7 @@ def extent(lines: list[str], first: int, indent: str, in_trait: bool) -> tuple[i
 
 
 def calls_itself(name: str, body: list[str], in_type: bool) -> bool:
-    """Returns whether a body calls its own function. The checker proves a function that calls itself as a cycle, even
-    if it has no attribute."""
+    """Returns whether a body calls its own function, which is then proved as a cycle."""
     before = r"(?:(?<![\w.:])Self::|(?<![\w.])self\.)" if in_type else r"(?<![\w.:])"
     return bool(re.search(rf"{before}{name}\(", "\n".join(line.partition("//")[0] for line in body)))
 

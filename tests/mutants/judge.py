@@ -125,9 +125,8 @@ class Judge:
             each.ends(found.grade, goal=found.goal)
 
     def ends_proved(self, each: Try, report: Report) -> None:
-        """Notes that an edit is proved, if the check reports this for each function that the edit changes. A check has
-        not judged a function about which it reports nothing, for example because the borrow checker does not cover
-        it."""
+        """Notes that an edit is proved, if the check reports this for each function that the edit changes. (The borrow
+        checker, for example, may not cover a function.)"""
         for owner in each.owners:
             said = report.named.get(owner.path, "the check says nothing of it")
             if said.split(";")[0] not in ("proved", "no holes"):
@@ -140,8 +139,7 @@ class Judge:
         return self.chosen([it for it in opens if each.is_wanted(it.goal)] if each.wanted else opens)
 
     def next(self, each: Try, opens: list[Open]) -> Open | None:
-        """Returns the next goal that an edit without a goal may name, if the tried goal is proved without its
-        answer."""
+        """Returns the next goal that an edit without a goal may name, if the tried goal needs no answer."""
         if not each.left or each.edit.goal:
             return None
         each.passed.add(each.left.goal)
@@ -155,8 +153,7 @@ class Judge:
         return {it.path for it in [*self.crate.paths.values(), *each.owners] if it.unit in units}
 
     def is_own(self, goal: Open, owner: Function) -> bool:
-        """Returns whether a goal belongs to a function. In a cycle of several functions, the goal's name begins with
-        the function."""
+        """Returns whether a goal belongs to a function. In a cycle of several, its name begins with the function."""
         several = sum(it.unit == owner.unit for it in self.crate.paths.values()) > 1
         own = owner.path.rpartition("::")[2]
         return is_of(goal.unit, owner) and (not several or goal.goal.startswith(f"{own}-"))

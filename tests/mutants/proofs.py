@@ -157,8 +157,7 @@ def lemmas(text: str) -> list[Lemma]:
 
 
 def words_of_types(texts: dict[str, str]) -> set[str]:
-    """Returns the words of proof files that stand outside of proofs and imports. They include each definition that the
-    type of a lemma or of a goal names."""
+    """Returns the words of proof files outside of proofs and imports, with each definition that a type names."""
     found: set[str] = set()
     for text in texts.values():
         lines = text.split("\n")

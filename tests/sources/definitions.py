@@ -46,8 +46,7 @@ FUNCTION = re.compile(r'(?m)^([ \t]*)(pub(?:\([a-z]+\))? )?(?:const )?(extern "C
 
 @dataclass(frozen=True)
 class Clause:
-    """A clause of a function, which is an `ensures` or a `requires`. The comment of a clause that begins a block is
-    also the comment of the block's other clauses."""
+    """An `ensures` or a `requires`. The comment of a clause that begins a block is also for the block's others."""
 
     name: str
     comment: str
@@ -58,8 +57,7 @@ class Clause:
 
 @dataclass(frozen=True)
 class Call:
-    """A function: its file, the offset of its line, its type or trait, its name, whether it is a private method,
-    whether it is for C, and its clauses."""
+    """A function, with the offset of its line. `owner` is its type or trait, and `is_inner` marks a private method."""
 
     path: str
     start: int
@@ -72,7 +70,7 @@ class Call:
 
 @dataclass(frozen=True)
 class Imports:
-    """The names that a file imports, with their meaning: names of definitions, and names of modules."""
+    """The names of definitions and of modules that a file imports, with their meaning."""
 
     names: dict[str, Key]
     modules: dict[str, Place]
@@ -96,8 +94,7 @@ class Group:
 
 @dataclass(frozen=True)
 class Source:
-    """A file of a crate's code: its path, its module, its text, the names that the crate exports, and whether the
-    module is public."""
+    """A file of a crate's code, the names that the crate exports, and whether the module is public."""
 
     path: str
     module: str
@@ -159,11 +156,6 @@ def entries(paragraph: str) -> list[Entry]:
     return found
 
 
-def defined(paragraph: str) -> list[str]:
-    """Returns the names of the definitions in a paragraph."""
-    return [word for entry in entries(paragraph) for word in entry.words]
-
-
 def reached(first: Iterable[T], after: Callable[[T], Iterable[T]]) -> set[T]:
     """Returns some things, and all things that come after them."""
     found, left = set[T](), [*first]
@@ -179,7 +171,6 @@ class Words:
     """The definitions of all crates, and the definitions that each of them cites."""
 
     def __init__(self) -> None:
-        """Reads all files of definitions."""
         self.groups: dict[Key, Group] = {}
         self.imports: dict[Place, Imports] = {}
         self.private: set[Place] = set()
@@ -192,7 +183,7 @@ class Words:
             if module.startswith(INNER):
                 self.private.add((crate, module))
             for paragraph in paragraphs(text):
-                words = defined(paragraph)
+                words = [word for entry in entries(paragraph) for word in entry.words]
                 for word in words:
                     self.groups[crate, module, word] = Group(words, re.sub(r"(?m)--.*$", "", paragraph))
 
@@ -231,8 +222,7 @@ def block(text: str, start: int) -> int:
 
 
 def contract(text: str, code: str, start: int) -> list[Clause]:
-    """Returns the clauses of the function whose name ends at `start`. `code` is the text with blanks in place of its
-    comments."""
+    """Returns the clauses of the function whose name ends at `start`. `code` is the text without comments."""
     found: list[Clause] = []
     while True:
         signature, match = SIGNATURE.match(code, start), CLAUSE.match(code, start)
@@ -248,8 +238,7 @@ def contract(text: str, code: str, start: int) -> list[Clause]:
 
 
 def owner(code: str, start: int) -> tuple[str, bool]:
-    """Returns the type or the trait whose block contains a place of some code, and whether it is the block of a
-    trait."""
+    """Returns the type or the trait whose block contains a place of some code, and whether it is a trait's."""
     heads = re.findall(r"(?m)^(?:impl\b(?:<[^\n]*?>)?(?:( [^\n]*?) for)? (\w+)|pub trait (\w+))", code[:start])
     trait, name, own_trait = heads[-1] if heads else ("", "", "")
     return name or own_trait, bool(trait or own_trait)
@@ -271,8 +260,7 @@ def sources(crate: str) -> Iterator[Source]:
 
 
 def calls(crate: str) -> Iterator[Call]:
-    """Returns the public functions of a crate, in the order of its files. All functions of the program count as
-    public."""
+    """Returns the public functions of a crate, or all functions of the program, in the order of its files."""
     for source in sources(crate):
         uses = r"(?m)^[ \t]*(?:ghost )?use [^;]*;"
         code = blank(re.sub(uses, lambda match: re.sub(r"[^\n]", " ", match[0]), source.text))
