@@ -50,15 +50,6 @@ class Case:
     base: int = 0
 
 
-def word_of(at: Extent, base: int, image: Image | None) -> str:
-    """Returns the word that `hobs` writes of a volume at this address: whether the image at `base` has it."""
-    if image is None:
-        return ""
-    if not base <= at.offset or at.offset + at.length > base + len(image.data):
-        return " outside"
-    return " volume" if Extent(at.offset - base, at.length) in image.places else " absent"
-
-
 class ListMaker(Maker):
     """Writes flash images and hand-off lists."""
 
@@ -98,10 +89,13 @@ class ListMaker(Maker):
         return struct.pack("<HHI", block.kind, length, reserved) + block.payload
 
     def volume_block(self, base: int, image: Image | None) -> Block:
-        """Returns a block that names a volume."""
+        """Returns a block that names a volume, with the word on whether the image at `base` has this volume."""
         at, kind = self.span(base, image or Image(b"", [])), self.pick.choice(VOLUME_BLOCKS)
         payload = struct.pack("<QQ", at.offset, at.length) + self.pick.randbytes(32 * (kind == 0x9))
-        return Block(kind, payload, word_of(at, base, image))
+        is_inside = image is not None and base <= at.offset and at.offset + at.length <= base + len(image.data)
+        is_volume = image is not None and Extent(at.offset - base, at.length) in image.places
+        word = "" if image is None else " outside" if not is_inside else " volume" if is_volume else " absent"
+        return Block(kind, payload, word)
 
     def other_block(self) -> Block:
         """Returns a block that names no volume."""

@@ -49,14 +49,9 @@ def holder_of(header: str) -> str:
     Vec<u8>`, and `WordFaultFromIoError` of `impl From<io::Error> for WordFault`. The name contains no lifetimes and no
     parameters of the `impl`."""
     bare = re.split(r"\bwhere\b|\{", header.replace("->", ""))[0]
-    depth, end = 0, 0
-    for at, sign in enumerate(bare if re.match(r"(?:pub )?impl<", bare) else ""):
-        depth += (sign == "<") - (sign == ">")
-        if sign == ">" and not depth:
-            end = at + 1
-            break
-    parameters = {*re.findall(r"(?:<|, )(?:const )?(\w+)\b", bare[:end])}
-    rest = re.sub(r"'\w+|\b(?:pub|impl|trait)\b", "", bare[end:])
+    _, begin, rest = re.split(r"^((?:pub )?impl<(?:[^<>]|<(?:[^<>]|<[^<>]*>)*>)*>|)", bare, maxsplit=1)
+    parameters = {*re.findall(r"(?:<|, )(?:const )?(\w+)\b", begin)}
+    rest = re.sub(r"'\w+|\b(?:pub|impl|trait)\b", "", rest)
     trait, _, kind = re.split(r": ", rest)[0].rpartition(" for ")
     # The path of the type or of the trait is left out. A path among its parameters stays.
     parts = [re.sub(r"^\s*(?:\w+::)+", "", it) for it in (kind, trait)]
