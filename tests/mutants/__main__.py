@@ -67,6 +67,7 @@ import concurrent.futures
 import json
 import os
 import pathlib
+import re
 import resource
 import shutil
 import signal
@@ -77,11 +78,11 @@ import time
 import kit
 import prove
 from tests.checks import ROOT
-from tests.mutants.crates import Checks, Crate, link_libraries
+from tests.mutants.crates import Checks, Crate, files_of, link_libraries
 from tests.mutants.edits import BAD, CACHE, REJECTED, TEXT, WEAK, Edit, Open, Try, applied, changed, keep, key_of
 from tests.mutants.edits import read_edit, read_lists, write_goal, write_lists
 from tests.mutants.judge import Judge
-from tests.mutants.unnamed import list_unnamed
+from tests.sources.definitions import calls
 
 ROOM = 3_500_000  # the kB of memory that a check is expected to take
 
@@ -214,6 +215,39 @@ def run(names: list[str], given: argparse.Namespace, checks: Checks, room: pathl
             if not all(it.done() for it in runs):
                 checks.stop()
     return tell(tries, checks.count, sum(it.applied for it in crates))
+
+
+def named_in(crate: str) -> dict[str, set[str]]:
+    """Returns the clauses that the goals of a crate's edits name, by the names of their functions. Each edit of a
+    function counts as naming its only clause, which has no name here."""
+    folder, named = ROOT / "crates" / crate, collections.defaultdict[str, set[str]](set)
+    texts = files_of(folder)
+    for edit in map(read_edit, (it for part in ("mutants", "must-fail") for it in (folder / part).glob("*.edit"))):
+        clause = re.search(r"clause-([\w-]+)$", edit.goal)
+        for owner in [it.path for it in changed(edit, texts) or []] + [edit.of] * bool(edit.of):
+            named[owner.rpartition("::")[2]].add(clause[1] if clause else "")
+    return named
+
+
+def list_unnamed(crates: list[str]) -> int:
+    """Lists the `ensures` clauses of public functions that no edit's goal names. Returns the exit status."""
+    os.chdir(ROOT)
+    every, left = 0, 0
+    for crate in crates:
+        named, count, lacking = named_in(crate), 0, list[str]()
+        for call in calls(crate):
+            clauses, edits = [it.name for it in call.clauses if it.is_ensured], named[call.name]
+            count += len(clauses)
+            place = f"{call.path.partition('/src/')[2]}: {call.owner + '::' if call.owner else ''}{call.name}"
+            lacking += [
+                f"    {place}: {it or '(a clause without a name)'}"
+                for it in clauses
+                if it not in edits and (len(clauses) > 1 or not edits)
+            ]
+        print("\n".join([f"mutants: {crate}: {len(lacking)} of {count} clauses are in no edit's goal", *lacking]))
+        every, left = every + count, left + len(lacking)
+    print(f"mutants: {left} of {every} clauses of public functions are in no edit's goal")
+    return 0
 
 
 def arguments() -> argparse.Namespace:

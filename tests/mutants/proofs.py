@@ -4,6 +4,7 @@
 from __future__ import annotations
 
 import dataclasses
+import itertools
 import re
 
 from tests.mutants.functions import indent_of
@@ -24,15 +25,10 @@ RULES = re.compile(r"(?m)^use Rattle\.std\.proofs\.Common\.\{(?:[^}]*, )?rules[,
 
 def answers(text: str) -> dict[str, tuple[int, int]]:
     """Returns the declarations of a proof file: the lines of each, from its first up to the next declaration."""
-    lines, begins, ends = text.split("\n"), {}, []
-    for number, line in enumerate(lines):
-        declares = DECLARES.match(line)
-        if declares and not APART.match(line):
-            begins[declares[1]] = number
-            ends.append(number)
-        elif APART.match(line):
-            ends.append(number)
-    return {name: (at, min((it for it in ends if it > at), default=len(lines))) for name, at in begins.items()}
+    lines = text.split("\n")
+    matches = ((at, APART.match(it), DECLARES.match(it)) for at, it in enumerate(lines))
+    begins = [(at, it[1] if it and not apart else "") for at, apart, it in matches if it or apart]
+    return {name: (at, end) for (at, name), (end, _) in itertools.pairwise([*begins, (len(lines), "")]) if name}
 
 
 def without(text: str, name: str) -> str | None:

@@ -78,18 +78,11 @@ class Imports:
 
 @dataclass(frozen=True)
 class Entry:
-    """The definitions under one comment, and this comment."""
+    """The definitions under one comment, and this comment, or those in one paragraph, and its text without comments."""
 
     words: list[str]
-    comment: str
-
-
-@dataclass(frozen=True)
-class Group:
-    """Definitions in one paragraph, and the paragraph without its comments."""
-
-    words: list[str]
-    text: str
+    comment: str = ""
+    text: str = ""
 
 
 @dataclass(frozen=True)
@@ -171,7 +164,7 @@ class Words:
     """The definitions of all crates, and the definitions that each of them cites."""
 
     def __init__(self) -> None:
-        self.groups: dict[Key, Group] = {}
+        self.groups: dict[Key, Entry] = {}
         self.imports: dict[Place, Imports] = {}
         self.private: set[Place] = set()
         for path in sorted(glob.glob("crates/*/specs/**/*.antt", recursive=True)):
@@ -185,7 +178,7 @@ class Words:
             for paragraph in paragraphs(text):
                 words = [word for entry in entries(paragraph) for word in entry.words]
                 for word in words:
-                    self.groups[crate, module, word] = Group(words, re.sub(r"(?m)--.*$", "", paragraph))
+                    self.groups[crate, module, word] = Entry(words, text=re.sub(r"(?m)--.*$", "", paragraph))
 
     def cited(self, text: str, known: Imports, own: Place | None = None) -> set[Key]:
         """Returns the definitions that a text cites, by the imports of its file, and by the definitions of that file if
