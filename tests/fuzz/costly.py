@@ -124,10 +124,10 @@ def mixed(size: int, _parts: int) -> bytes:
     return volume(*heads)
 
 
-def alike(data: bytes, size: int, parts: int) -> bytes:
+def alike(data: bytes, size: int, parts: int, kind: int = FREEFORM) -> bytes:
     """Makes a volume of files with different names and the same data."""
     count = max(1, min(size // (32 + len(data)), parts))
-    return volume(*(making.file(guid(it), data, FREEFORM) for it in range(1, count + 1)))
+    return volume(*(making.file(guid(it), data, kind) for it in range(1, count + 1)))
 
 
 def summed_heads(size: int, _parts: int) -> bytes:

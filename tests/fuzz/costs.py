@@ -44,6 +44,7 @@ from tests.checks import ROOT
 from tests.frame import LIBRARY, PROGRAM
 from tests.fuzz.costly import ALL, BOTH, FOR_PACKAGE, FOR_PROGRAM, MIB, PACKED, RATIOS, SECTIONS
 from tests.fuzz.costly import Inputs, alike, flipped, holder, named, squeezed, volume
+from tests.making import RAW_FILE
 
 # Each command with its arguments. IMAGE, OTHER, COPY and FOLDER take the place of an input, of the same input with one
 # byte changed, of its copy, and of a new folder.
@@ -71,7 +72,7 @@ OTHER_READERS = ("VolInfo", "UEFIExtract")
 HEAD = f"{'input':24} {'bytes':>10} {'command':30} status {'seconds':>9} {'of first':>8} {'MiB':>8} {'of input':>9}"
 HEAD += f" {'most MiB':>9} {'output':>11}"
 # Volumes of files with 64 KiB of data each, of files without data, and of empty sections
-DATA_FILES = partial(alike, bytes(range(256)) * 256)
+DATA_FILES = partial(alike, bytes(range(256)) * 256, kind=RAW_FILE)
 PLAIN: Inputs = {"data_files": DATA_FILES, "small_files": BOTH["names"], "sections": FOR_PROGRAM["empty_sections"]}
 HELD = 128 * MIB  # bytes that a small bomb holds
 PARTS = 98_000  # parts of a bomb of many parts
