@@ -19,8 +19,7 @@ from pathlib import Path
 
 from tests.checks import ROOT
 from tests.frame import PROGRAM
-from tests.fuzz.cases import make_case
-from tests.fuzz.lists import Case
+from tests.fuzz.cases import Case, make_case
 from tests.fuzz.program import Program, Wrong
 from tests.fuzz.promises import CHECKS
 

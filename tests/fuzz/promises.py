@@ -10,7 +10,7 @@ import re
 import uuid
 from collections.abc import Callable
 
-from tests.fuzz.lists import Case, Extent
+from tests.fuzz.cases import Case, Extent
 from tests.fuzz.program import Program, fault, joined, line, require
 from tests.making import FIXED
 

@@ -38,9 +38,8 @@ from fv.limits import Full, Limits
 from fv.names import CODE, Names
 from tests import making
 from tests.frame import LIBRARY
-from tests.fuzz.cases import broken, make_case
+from tests.fuzz.cases import Case, broken, make_case
 from tests.fuzz.fuzz import KEPT, write_case
-from tests.fuzz.lists import Case
 from tests.fuzz.program import require
 
 SECONDS = 20
