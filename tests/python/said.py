@@ -15,7 +15,7 @@ from collections.abc import Callable, Iterator, Sequence
 from pathlib import Path
 
 import fv
-from tests.fuzz.pieces import leaf_note
+from tests.fuzz.maker import leaf_note
 from tests.python.outcomes import outcome
 
 # An exit status, and the bytes on standard output.
