@@ -61,7 +61,9 @@ def _load() -> c.CDLL:
         library = c.CDLL(path)
         number: int = library.fv_version_number()
         if number >> 16 == native.VERSION_MAJOR:
-            native.declare(library)
+            for name, (result, arguments) in native.CALLS.items():
+                call = getattr(library, name)
+                call.restype, call.argtypes = result, arguments
             return library
     except (OSError, AttributeError) as error:
         raise ImportError(f"{error}{hint}", name="fv", path=path) from error
