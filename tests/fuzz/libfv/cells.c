@@ -76,5 +76,5 @@ void try_cells(struct volume *v)
     if (count > MOST_ROWS) return;
     v->cells = cells;
     check_cells(v);
-    saw(SEEN_CELLS, count > 20 ? 20 : (uint32_t)count, 0, 0);
+    saw(__func__, count > 20 ? 20 : (uint32_t)count, 0, 0);
 }

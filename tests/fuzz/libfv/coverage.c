@@ -33,7 +33,7 @@ static void on_trap(int number, siginfo_t *info, void *context)
 {
     (void)number, (void)info;
     greg_t *place = &((ucontext_t *)context)->uc_mcontext.gregs[REG_RIP];
-    size_t offset = (size_t)--*place - (size_t)__start_library_code;
+    size_t offset = (size_t)-- * place - (size_t)__start_library_code;
     if (offset >= code_size() || code[offset] == TRAP) {
         static const char text[] = "finding: the library has come to a trap of its own\n";
         (void)!write(STDERR_FILENO, text, sizeof text - 1);
@@ -87,12 +87,12 @@ int LLVMFuzzerInitialize(int *argc, char ***argv)
     return 0;
 }
 
-void saw(uint32_t what, uint32_t a, uint32_t b, uint64_t c)
+void saw(const char *function, uint32_t a, uint32_t b, uint64_t c)
 {
-    uint64_t hash = UINT64_C(0xcbf29ce484222325);
-    uint64_t parts[] = {what, a, b, c};
-    for (size_t i = 0; i < sizeof parts / sizeof *parts; i++) {
-        hash = (hash ^ parts[i]) * UINT64_C(0x9e3779b97f4a7c15);
+    uint64_t hash = UINT64_C(0xcbf29ce484222325), numbers[] = {a, b, c};
+    for (; *function; function++) hash = (hash ^ (uint8_t)*function) * UINT64_C(0x100000001b3);
+    for (int i = 0; i < 3; i++) {
+        hash = (hash ^ numbers[i]) * UINT64_C(0x9e3779b97f4a7c15);
         hash ^= hash >> 29;
     }
     counters[COUNTERS + hash % SEEN_COUNTERS] = 1;

@@ -69,7 +69,7 @@ static fv_result evaluate(struct evaluation *e, uint32_t *value)
         if (e->at >= e->len) return FV_FAULT_DEPEX_NO_END;
         uint8_t op = e->bytes[e->at];
         fv_result fault = fault_of(e, op);
-        saw(SEEN_OP, before * 16u + (op > SOR ? SOR + 1 : op), fault, e->height > 4 ? 4 : e->height);
+        saw(__func__, before * 16u + (op > SOR ? SOR + 1 : op), fault, e->height > 4 ? 4 : e->height);
         if (fault) return fault;
         if (op == END) {
             *value = e->is_closed ? FV_DEPEX_ORDER : e->stack[0];
@@ -93,15 +93,13 @@ static void try_phase(struct evaluation *e, uint32_t phase, const uint8_t *param
     if (wanted == UNKNOWN) return;
     fv_result result = fv_depex_evaluate(e->bytes, e->len, phase, e->installed, e->installed_count, &value, &fault);
     check_no_block_is_kept("depex");
-    saw(SEEN_EXPRESSION, result, e->is_pei, e->at > 40 ? 40 : e->at);
+    saw(__func__, result, e->is_pei, e->at > 40 ? 40 : e->at);
     CHECK(result == wanted, "depex: %u, not %u at %zu", result, wanted, e->at);
     CHECK(value == expected, "depex: value %u, not %u", value, expected);
+    check_result("depex", result, &fault, FV_FAULT_DEPEX_POSITION, e->len);
     if (result)
-        CHECK(fault.result == result && fault.offset == e->at && !fault.depth && !fault.input && !fault.reserved,
-              "depex: fault %u at %lu, not %u at %zu", fault.result, fault.offset, wanted, e->at);
-    else
-        CHECK(is_no_fault(&fault), "depex: no fault, and fault %u", fault.result);
-    CHECK(fv_result_text(result)[0], "depex: result %u has no text", result);
+        CHECK(fault.offset == e->at && !fault.depth && !fault.input, "depex: fault %u at %lu, not at %zu", result,
+              fault.offset, e->at);
     fv_fault *unless_null = FAULT_OR_NULL(parameters, &fault);
     value = UNTOUCHED;
     refuse_allocation(parameters[REFUSED]);

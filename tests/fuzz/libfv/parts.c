@@ -66,7 +66,7 @@ static void try_part(const struct volume *v, size_t row)
     size_t length;
     fv_fault fault;
     fv_result result = try_row(v, row, &length, &fault);
-    saw(SEEN_PART, result, node->kind * 4 + node->content, node->depth);
+    saw(__func__, result, node->kind * 4 + node->content, node->depth);
     if (result) {
         check_no_part(v, row, result, &fault);
         return;

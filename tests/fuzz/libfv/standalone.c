@@ -12,9 +12,9 @@ static const uint8_t modes[] = {AS_IMAGE_AND_VOLUME, AS_EXPRESSION, AS_HAND_OFF_
 
 static uint8_t given[PARAMETERS + 2 * MOST_INPUT], *const data = given + PARAMETERS;
 
-void saw(uint32_t what, uint32_t a, uint32_t b, uint64_t c)
+void saw(const char *function, uint32_t a, uint32_t b, uint64_t c)
 {
-    (void)what, (void)a, (void)b, (void)c;
+    (void)function, (void)a, (void)b, (void)c;
 }
 
 /* Reads a file to a place. Returns the number of its bytes. */
