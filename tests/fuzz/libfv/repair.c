@@ -137,7 +137,7 @@ static size_t repair_file(uint8_t *volume, size_t len, size_t at, uint8_t erased
     if (!size) return len;
     uint8_t state = head[STATE] ^ erased;
     if (state & 1 && !(state & 2)) size = header = HEAD; /* a header that was never finished */
-    if (!one_in(10)) head[ATTRIBUTES] &= (uint8_t)~FIXED;
+    if (!one_in(3)) head[ATTRIBUTES] &= (uint8_t)~FIXED;
     uint8_t kind = head[KIND];
     bool has_sections = kind >= 2 && kind <= 0x0F && !(kind == 3 && below(2));
     if (has_sections) repair_sections(head + header, size - header, depth);
