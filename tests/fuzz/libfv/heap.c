@@ -7,7 +7,8 @@
 #include <sys/mman.h>
 
 #define PAGE 4096u
-#define ROOMS 512u
+#define ROOMS 16384u
+#define RESTING 256u /* the number of rooms that are empty before a room is used again */
 #define ROOM ((size_t)8 << 20)
 #define STRIDE (ROOM + PAGE)
 #define FENCE 32u /* the number of checked bytes before and after a block */
@@ -23,7 +24,8 @@ struct tried {
 static uint8_t nothing;
 static uint8_t *rooms;
 static size_t len_in[ROOMS];                      /* of the block in a room, or 0 */
-static uint32_t queue[ROOMS], queue_from, queued; /* the empty rooms, the longest empty room first */
+static uint32_t opened;                           /* the number of rooms that were used */
+static uint32_t queue[ROOMS], queue_from, queued; /* the empty rooms of these, the longest empty room first */
 static long refuse_in = -1, refuse_by;
 unsigned long allocations, refusals;
 
@@ -36,10 +38,21 @@ void open_heap(void)
 {
     rooms = mmap(NULL, ROOMS * STRIDE, PROT_NONE, MAP_PRIVATE | MAP_ANONYMOUS | MAP_NORESERVE, -1, 0);
     if (rooms == MAP_FAILED) abort();
-    for (; queued < ROOMS; queued++) {
-        if (mprotect(end_of_room(queued) - ROOM, ROOM, PROT_READ | PROT_WRITE)) abort();
-        queue[queued] = queued;
+}
+
+/* Returns a room that is empty. */
+static uint32_t empty_room(void)
+{
+    uint32_t room = opened;
+    if (queued < RESTING && opened < ROOMS) {
+        if (mprotect(end_of_room(opened++) - ROOM, ROOM, PROT_READ | PROT_WRITE)) abort();
+        return room;
     }
+    CHECK(queued, "the harness has no room for more than %u blocks", ROOMS);
+    room = queue[queue_from];
+    queue_from = (queue_from + 1) % ROOMS;
+    queued--;
+    return room;
 }
 
 void refuse_allocation(unsigned number)
@@ -61,7 +74,7 @@ bool end_refusal(void)
 
 void check_no_block_is_kept(const char *call)
 {
-    CHECK(queued == ROOMS, "%s: %u blocks are kept", call, ROOMS - queued);
+    CHECK(queued == opened, "%s: %u blocks are kept", call, opened - queued);
 }
 
 /* Returns whether this allocation is refused. After a refusal `refuse_in` is -1, which end_refusal reads. */
@@ -82,11 +95,9 @@ static struct tried take(size_t len, size_t alignment)
 {
     if (is_refused()) return (struct tried){false, &nothing};
     CHECK(alignment >= 1 && alignment <= 16 && !(alignment & (alignment - 1)), "an alignment of %zu", alignment);
-    CHECK(len < ROOM - 2 * FENCE && queued, "a block of %zu bytes, and %u rooms for it", len, queued);
+    CHECK(len < ROOM - 2 * FENCE, "the harness has no room for a block of %zu bytes", len);
     if (!len) len = alignment;
-    uint32_t room = queue[queue_from];
-    queue_from = (queue_from + 1) % ROOMS;
-    queued--;
+    uint32_t room = empty_room();
     len_in[room] = len;
     size_t taken = (len + alignment - 1) / alignment * alignment;
     uint8_t *block = end_of_room(room) - taken;
