@@ -1,6 +1,5 @@
 /* SPDX-License-Identifier: BSD-2-Clause-Patent */
-/* Checks fv_volume_cells: the cells follow one another up to the end of the volume, and each cell agrees with its
- * bytes. */
+/* Checks fv_volume_cells (README.md says how). */
 #include "format.h"
 #include "rows.h"
 #include "volume.h"

@@ -45,24 +45,38 @@ struct place any_volume(const uint8_t *image, size_t len, bool is_nested)
     return count ? found[below(count)] : (struct place){0, 0};
 }
 
-/* The bytes of all first inputs (seeds.py), from which files are taken. */
+/* The bytes of all first inputs (seeds.py), from which files and volumes are taken. */
 extern const uint8_t _binary_stock_start[], _binary_stock_end[];
 
-/* Puts a file of a volume in the first inputs before a cell, or before all cells. */
+/* Returns a random volume of the first inputs. Its length is 0 if none was found. */
+static struct input other_volume(void)
+{
+    const uint8_t *from = _binary_stock_start + below((uint32_t)(_binary_stock_end - _binary_stock_start));
+    struct place place = any_volume(from, (size_t)(_binary_stock_end - from), true);
+    return (struct input){from + place.at, place.len};
+}
+
+/* Replaces the volume by another. */
+static size_t take_volume(uint8_t *volume, size_t len, size_t most)
+{
+    struct input other = other_volume();
+    if (!other.len || other.len > most) return len;
+    memcpy(volume, other.bytes, other.len);
+    return other.len;
+}
+
+/* Puts a file of another volume before a cell, or before all cells. */
 static size_t add_file(uint8_t *volume, size_t len, size_t most, struct cell cell)
 {
-    size_t left = (size_t)(_binary_stock_end - _binary_stock_start);
-    const uint8_t *other = _binary_stock_start + below((uint32_t)left);
-    struct place place = any_volume(other, (size_t)(_binary_stock_end - other), true);
-    other += place.at;
-    struct cell file = place.len ? any_cell(other, place.len) : (struct cell){0, 0};
+    struct input other = other_volume();
+    struct cell file = other.len ? any_cell(other.bytes, other.len) : (struct cell){0, 0};
     size_t at = cell.len && below(2) ? cell.at : first_cell(volume, len), size = (file.len + 7) & ~(size_t)7;
     if (at > len) at = LEAST_VOLUME;
     size_t new_len = open_gap(volume, len, most, at, size);
     if (new_len == len) return len;
     memset(volume + at, erased_byte(volume), size);
-    memcpy(volume + at, other + file.at, file.len);
-    volume[at + STATE] ^= erased_byte(volume) ^ erased_byte(other);
+    memcpy(volume + at, other.bytes + file.at, file.len);
+    volume[at + STATE] ^= erased_byte(volume) ^ erased_byte(other.bytes);
     return new_len;
 }
 
@@ -110,50 +124,6 @@ static size_t cut_end(size_t len)
     return len > count + LEAST_VOLUME ? len - count : len;
 }
 
-static void turn_polarity(uint8_t *volume, size_t len)
-{
-    for (size_t i = LEAST_VOLUME; i < len; i++) volume[i] ^= 0xFF;
-    volume[POLARITY] ^= 8;
-}
-
-static void change_file_system(uint8_t *volume)
-{
-    if (below(2))
-        memcpy(volume + FILE_SYSTEM, file_systems[1], sizeof file_systems[1]);
-    else
-        volume[FILE_SYSTEM] ^= 2;
-}
-
-/* Gives the volume an extended header in a pad, or changes the size of its extended header. */
-static size_t change_ext_header(uint8_t *volume, size_t len, size_t most)
-{
-    size_t ext = number_at(volume + EXT_HEADER, 2);
-    if (ext) {
-        if (ext + 20 <= len)
-            put_number(volume + ext + 16, 4, 20 + below(64));
-        else
-            put_number(volume + EXT_HEADER, 2, 0);
-        return len;
-    }
-    size_t size = (HEAD + 20 + below(3) * 8 + 7) & ~(size_t)7;
-    uint8_t *pad = volume + LEAST_VOLUME, *header = pad + HEAD;
-    size_t new_len = open_gap(volume, len, most, LEAST_VOLUME, size);
-    if (new_len == len) return len;
-    memset(pad, 0, size);
-    memset(pad, 0xFF, 16);
-    pad[KIND] = 0xF0;
-    pad[STATE] = 7 ^ erased_byte(volume);
-    put_number(pad + SIZE, 3, size);
-    put_number(volume + EXT_HEADER, 2, LEAST_VOLUME + HEAD);
-    for (int i = 0; i < 16; i++) header[i] = (uint8_t)chance();
-    put_number(header + 16, 4, below(3) ? 20 : size - HEAD);
-    if (size > 48) { /* an entry */
-        put_number(header + 20, 2, 4 + below(16));
-        put_number(header + 22, 2, below(4));
-    }
-    return new_len;
-}
-
 /* Changes the type or the size of a section of a file, if the cell is a file. */
 static void change_section(uint8_t *volume, size_t len, struct cell cell)
 {
@@ -169,16 +139,6 @@ static void change_section(uint8_t *volume, size_t len, struct cell cell)
                                            PEI_EXPRESSION, 0x1C, 0x20);
     else
         put_number(volume + at, 3, below(3) ? 4 + below(60) : 0xFFFFFF);
-}
-
-/* Gives a file the name of the volume top file, and now and then ends the volume after this file. */
-static size_t make_top_file(uint8_t *volume, size_t len, struct cell cell)
-{
-    static const uint8_t name[16] = {0x2e, 0x06, 0xa0, 0x1b, 0x79, 0xc7, 0x82, 0x45,
-                                     0x85, 0x66, 0x33, 0x6a, 0xe8, 0xf7, 0x8f, 0x09};
-    memcpy(volume + cell.at, name, sizeof name);
-    size_t end = (cell.at + cell.len + 7) & ~(size_t)7;
-    return below(2) && end <= len && end > LEAST_VOLUME ? end : len;
 }
 
 static void make_large(uint8_t *head, struct cell cell)
@@ -206,11 +166,10 @@ static void change_head(uint8_t *head, struct cell cell, uint8_t erased)
 
 static size_t change_cell(uint8_t *volume, size_t len, size_t most, struct cell cell)
 {
-    switch (below(9)) {
+    switch (below(8)) {
     case 0: return remove_cell(volume, len, cell);
     case 1: return repeat_cell(volume, len, most, cell);
-    case 2: return make_top_file(volume, len, cell);
-    case 3: change_section(volume, len, cell); return len;
+    case 2: change_section(volume, len, cell); return len;
     default: change_head(volume + cell.at, cell, erased_byte(volume)); return len;
     }
 }
@@ -233,18 +192,16 @@ size_t change_volume(uint8_t *volume, size_t len, size_t most)
 {
     if (len < LEAST_VOLUME) return LLVMFuzzerMutate(volume, len, most);
     struct cell cell = any_cell(volume, len);
-    switch (below(18)) {
+    switch (below(16)) {
     case 0:
     case 1:
     case 7: return add_file(volume, len, most, cell);
     case 2: return add_free_space(volume, len, most);
     case 3: return cut_end(len);
-    case 4: turn_polarity(volume, len); return len;
-    case 5: change_file_system(volume); return len;
-    case 6: return change_ext_header(volume, len, most);
-    case 8: volume[SIGNATURE + below(16)] ^= (uint8_t)(1 << below(8)); return len;
-    case 9: change_inside(volume, len); return len;
-    case 10: return LLVMFuzzerMutate(volume, len, most);
+    case 4: return take_volume(volume, len, most);
+    case 5: volume[SIGNATURE + below(16)] ^= (uint8_t)(1 << below(8)); return len;
+    case 6: change_inside(volume, len); return len;
+    case 8: return LLVMFuzzerMutate(volume, len, most);
     default: return cell.len ? change_cell(volume, len, most, cell) : len;
     }
 }

@@ -1,7 +1,5 @@
 /* SPDX-License-Identifier: BSD-2-Clause-Patent */
-/* Checks fv_image_scan, fv_image_normalise and fv_image_check: each volume is found, its row agrees with its header,
- * and nothing else is found. Each volume is replaced by its image. The result of a volume's check is the result of
- * fv_volume_is_canonical. */
+/* Checks fv_image_scan, fv_image_normalise and fv_image_check (README.md says how). */
 #include "harness.h"
 #include "rows.h"
 

@@ -37,12 +37,6 @@ static size_t change_expression(uint8_t *ops, size_t len, size_t most)
     }
 }
 
-static size_t mutate_expression(uint8_t *ops, size_t len, size_t most)
-{
-    for (uint32_t i = how_often(); i > 0; i--) len = change_expression(ops, len, most);
-    return len;
-}
-
 /* Repeats a block of a hand-off list, with another code or other bytes. */
 static size_t repeat_block(uint8_t *list, size_t len, size_t most)
 {
@@ -123,7 +117,9 @@ static size_t mutate_data(uint8_t *data, size_t len, size_t most, uint8_t *param
 {
     uint8_t mode = parameters[MODE] % MODES;
     switch (mode) {
-    case AS_EXPRESSION: return mutate_expression(data, len, most);
+    case AS_EXPRESSION:
+        for (uint32_t i = how_often(); i > 0; i--) len = change_expression(data, len, most);
+        return len;
     case AS_HAND_OFF_LIST:
         return len >= 64 && one_in(3) ? repeat_block(data, len, most) : LLVMFuzzerMutate(data, len, most);
     case AS_IMAGE:

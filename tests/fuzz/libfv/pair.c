@@ -1,6 +1,5 @@
 /* SPDX-License-Identifier: BSD-2-Clause-Patent */
-/* Checks fv_volume_compare: the result is the same both ways, and two volumes are the same if their digests are
- * equal. */
+/* Checks fv_volume_compare (README.md says how). */
 #define _GNU_SOURCE
 #include "rows.h"
 

@@ -1,6 +1,5 @@
 /* SPDX-License-Identifier: BSD-2-Clause-Patent */
-/* Checks fv_volume_extract: the part of a row has the bytes that the image has for that row, at every level, and the
- * part of the first row is the image. */
+/* Checks fv_volume_extract (README.md says how). */
 #include "rows.h"
 #include "volume.h"
 

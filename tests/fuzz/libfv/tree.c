@@ -1,7 +1,5 @@
 /* SPDX-License-Identifier: BSD-2-Clause-Patent */
-/* Checks fv_volume_tree: each row lies in the row of its parent, and agrees with its header. The files of the volume
- * are cells. A nested volume has the same rows if its bytes are read on their own. The image has the same rows at other
- * offsets. */
+/* Checks fv_volume_tree (README.md says how). */
 #include "format.h"
 #include "rows.h"
 #include "volume.h"

@@ -1,7 +1,5 @@
 /* SPDX-License-Identifier: BSD-2-Clause-Patent */
-/* Checks fv_volume_unfix. The output has as many bytes as the input. No file is fixed in it. The output differs from
- * the input only in the two bytes of each mark, so a volume without marks stays as it is. The fault is a fault of the
- * header or of the cells, but never that a file is fixed. */
+/* Checks fv_volume_unfix (README.md says how). The fault is a fault of the header or of the cells. */
 #include "format.h"
 #include "rows.h"
 #include "volume.h"

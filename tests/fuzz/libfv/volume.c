@@ -1,6 +1,5 @@
 /* SPDX-License-Identifier: BSD-2-Clause-Patent */
-/* Checks the calls that take a volume. They agree about its fault. The image has the meaning and the digest of the
- * volume, and is its own image. */
+/* Checks the calls that take a volume (README.md says how). */
 #include "volume.h"
 #include "format.h"
 #include "rows.h"
