@@ -4,31 +4,26 @@
  * lengths, which repair.c corrects. */
 #include "mutate.h"
 
-#define MOST_CELLS 64u
 #define MOST_FOUND 64u
 
-/* Returns a random cell of the volume. `len` is 0 if there is no cell. */
-struct cell {
-    size_t at, len;
-};
-
-static struct cell any_cell(const uint8_t *volume, size_t len)
+/* Returns a random cell of the volume. Its length is 0 if there is no cell. */
+static struct place any_cell(const uint8_t *volume, size_t len)
 {
-    struct cell found[MOST_CELLS];
+    struct place found[MOST_FOUND];
     uint32_t count = 0;
     size_t at = first_cell(volume, len);
-    while (at + HEAD <= len && count < MOST_CELLS) {
+    while (at + HEAD <= len && count < MOST_FOUND) {
         uint64_t size = number_at(volume + at + SIZE, 3);
         if (volume[at + ATTRIBUTES] & LARGE && at + LARGE_HEAD <= len && !size)
             size = number_at(volume + at + LARGE_SIZE, 8);
         bool is_wrong = size < HEAD || size > len - at;
         bool is_free = (size & 0xFFFFFF) == 0xFFFFFF || size == 0;
         if (is_wrong && !is_free) break;
-        found[count++] = (struct cell){at, is_wrong ? len - at : size};
+        found[count++] = (struct place){at, is_wrong ? len - at : size};
         if (is_wrong) break;
         at = (at + size + 7) & ~(size_t)7;
     }
-    return count ? found[below(count)] : (struct cell){0, 0};
+    return count ? found[below(count)] : (struct place){0, 0};
 }
 
 struct place any_volume(const uint8_t *image, size_t len, bool is_nested)
@@ -66,10 +61,10 @@ static size_t take_volume(uint8_t *volume, size_t len, size_t most)
 }
 
 /* Puts a file of another volume before a cell, or before all cells. */
-static size_t add_file(uint8_t *volume, size_t len, size_t most, struct cell cell)
+static size_t add_file(uint8_t *volume, size_t len, size_t most, struct place cell)
 {
     struct input other = other_volume();
-    struct cell file = other.len ? any_cell(other.bytes, other.len) : (struct cell){0, 0};
+    struct place file = other.len ? any_cell(other.bytes, other.len) : (struct place){0, 0};
     size_t at = cell.len && below(2) ? cell.at : first_cell(volume, len), size = (file.len + 7) & ~(size_t)7;
     if (at > len) at = LEAST_VOLUME;
     size_t new_len = open_gap(volume, len, most, at, size);
@@ -80,13 +75,13 @@ static size_t add_file(uint8_t *volume, size_t len, size_t most, struct cell cel
     return new_len;
 }
 
-static size_t taken_by(struct cell cell, size_t len)
+static size_t taken_by(struct place cell, size_t len)
 {
     size_t taken = (cell.len + 7) & ~(size_t)7;
     return taken > len - cell.at ? len - cell.at : taken;
 }
 
-static size_t remove_cell(uint8_t *volume, size_t len, struct cell cell)
+static size_t remove_cell(uint8_t *volume, size_t len, struct place cell)
 {
     size_t taken = taken_by(cell, len);
     memmove(volume + cell.at, volume + cell.at + taken, len - cell.at - taken);
@@ -94,7 +89,7 @@ static size_t remove_cell(uint8_t *volume, size_t len, struct cell cell)
 }
 
 /* Repeats a cell once, or often with other names. */
-static size_t repeat_cell(uint8_t *volume, size_t len, size_t most, struct cell cell)
+static size_t repeat_cell(uint8_t *volume, size_t len, size_t most, struct place cell)
 {
     size_t taken = taken_by(cell, len);
     if (taken < HEAD) return len;
@@ -124,24 +119,7 @@ static size_t cut_end(size_t len)
     return len > count + LEAST_VOLUME ? len - count : len;
 }
 
-/* Changes the type or the size of a section of a file, if the cell is a file. */
-static void change_section(uint8_t *volume, size_t len, struct cell cell)
-{
-    size_t start = cell.at + HEAD, at = start, end = cell.at + cell.len;
-    for (uint32_t steps = below(6); steps > 0 && at + 4 <= end; steps--) {
-        size_t size = number_at(volume + at, 3);
-        if (size < 4 || at + size >= end) break;
-        at = start + ((at - start + size + 3) & ~(size_t)3);
-    }
-    if (at + 4 > len) return;
-    if (below(2))
-        volume[at + SECTION_KIND] = ONE_OF(1, 2, GROUP, GROUP, 0x10, DXE_EXPRESSION, 0x14, 0x15, VOLUME, 0x18, 0x19,
-                                           PEI_EXPRESSION, 0x1C, 0x20);
-    else
-        put_number(volume + at, 3, below(3) ? 4 + below(60) : 0xFFFFFF);
-}
-
-static void make_large(uint8_t *head, struct cell cell)
+static void make_large(uint8_t *head, struct place cell)
 {
     if (cell.len <= 56) return;
     head[ATTRIBUTES] |= LARGE;
@@ -150,7 +128,7 @@ static void make_large(uint8_t *head, struct cell cell)
 }
 
 /* Changes a field of a file's header. */
-static void change_head(uint8_t *head, struct cell cell, uint8_t erased)
+static void change_head(uint8_t *head, struct place cell, uint8_t erased)
 {
     switch (below(5)) {
     case 0:
@@ -164,12 +142,11 @@ static void change_head(uint8_t *head, struct cell cell, uint8_t erased)
     }
 }
 
-static size_t change_cell(uint8_t *volume, size_t len, size_t most, struct cell cell)
+static size_t change_cell(uint8_t *volume, size_t len, size_t most, struct place cell)
 {
-    switch (below(8)) {
+    switch (below(7)) {
     case 0: return remove_cell(volume, len, cell);
     case 1: return repeat_cell(volume, len, most, cell);
-    case 2: change_section(volume, len, cell); return len;
     default: change_head(volume + cell.at, cell, erased_byte(volume)); return len;
     }
 }
@@ -179,19 +156,18 @@ void change_inside(uint8_t *volume, size_t len)
     struct place place = any_volume(volume, len, true);
     if (!place.len) return;
     uint8_t *nested = volume + place.at;
-    struct cell cell = any_cell(nested, place.len);
+    struct place cell = any_cell(nested, place.len);
     if (!cell.len) return;
-    switch (below(3)) {
-    case 0: change_head(nested + cell.at, cell, erased_byte(nested)); break;
-    case 1: change_section(nested, place.len, cell); break;
-    default: nested[cell.at + below((uint32_t)cell.len)] ^= (uint8_t)(1 << below(8));
-    }
+    if (one_in(3))
+        change_head(nested + cell.at, cell, erased_byte(nested));
+    else
+        nested[cell.at + below((uint32_t)cell.len)] ^= (uint8_t)(1 << below(8));
 }
 
 size_t change_volume(uint8_t *volume, size_t len, size_t most)
 {
     if (len < LEAST_VOLUME) return LLVMFuzzerMutate(volume, len, most);
-    struct cell cell = any_cell(volume, len);
+    struct place cell = any_cell(volume, len);
     switch (below(16)) {
     case 0:
     case 1:

@@ -36,7 +36,6 @@ enum { AS_VOLUME, AS_IMAGE = 3, AS_EXPRESSION, AS_HAND_OFF_LIST, AS_PAIR, AS_IMA
 
 /* The value of each byte that a call must not change. */
 #define UNTOUCHED 0xC3
-#define UNTOUCHED_32 0xC3C3C3C3u
 #define UNTOUCHED_64 UINT64_C(0xC3C3C3C3C3C3C3C3)
 
 /* The address for the fault of a call, or now and then NULL. */

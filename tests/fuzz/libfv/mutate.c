@@ -26,6 +26,16 @@ static size_t add_ops(uint8_t *ops, size_t len, size_t most)
     return new_len;
 }
 
+/* Writes a valid expression: a value, the ops that add_ops adds, and END. */
+static size_t make_expression(uint8_t *ops, size_t most)
+{
+    size_t len = 1;
+    ops[0] = ONE_OF(6, 7);
+    for (uint32_t i = below(16); i > 0; i--) len = 1 + add_ops(ops + 1, len - 1, most - 2);
+    ops[len] = 8;
+    return len + 1;
+}
+
 static size_t change_expression(uint8_t *ops, size_t len, size_t most)
 {
     switch (below(4)) {
@@ -146,5 +156,9 @@ size_t LLVMFuzzerCustomMutator(uint8_t *data, size_t size, size_t most, unsigned
     size_t len = size - PARAMETERS, most_data = most - PARAMETERS;
     if (most_data > MOST_DATA) most_data = MOST_DATA;
     if (len > most_data) len = most_data;
+    if (one_in(50) && most_data > 2) {
+        data[MODE] = (data[MODE] & AT_START) | AS_EXPRESSION;
+        return PARAMETERS + make_expression(data + PARAMETERS, most_data);
+    }
     return PARAMETERS + mutate_data(data + PARAMETERS, len, most_data, data);
 }
