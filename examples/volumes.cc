@@ -6,6 +6,7 @@
 
 #include <fstream>
 #include <iostream>
+#include <iterator>
 #include <new>
 #include <string>
 #include <vector>
@@ -14,15 +15,8 @@
 static std::vector<uint8_t> read_file(const char *path)
 {
     std::ifstream file(path, std::ios::binary);
-    std::vector<uint8_t> bytes;
-    std::vector<char> part(1 << 16);
-    while (file.read(part.data(), static_cast<std::streamsize>(part.size())) || file.gcount() > 0) {
-        bytes.insert(bytes.end(), part.begin(), part.begin() + file.gcount());
-    }
-    if (!file.eof()) {
-        throw std::ios::failure("cannot read");
-    }
-    return bytes;
+    file.exceptions(std::ios::failbit | std::ios::badbit);
+    return {std::istreambuf_iterator<char>(file), std::istreambuf_iterator<char>()};
 }
 
 // Calls a function of libfv that writes rows: first without room, so that it says how many rows there are.

@@ -75,31 +75,26 @@ def tag(library: bytes) -> str:
     return f"py3-none-manylinux_2_{max([5, *map(int, versions)])}_{machine(library)}"
 
 
-def project() -> str:
-    """Returns the part of pyproject.toml that is about the project."""
-    text = (HERE / "pyproject.toml").read_text(encoding="utf-8")
-    return text.partition("\n[project]\n")[2].partition("\n[tool.")[0]
+def line(form: str, file: str = "pyproject.toml") -> re.Match[str]:
+    """Returns the first line, or lines, of a file of this folder with a form."""
+    match = re.search(f"(?m)^{form}$", (HERE / file).read_text(encoding="utf-8"))
+    assert match, f"{file} has no line of the form {form}"
+    return match
 
 
 def field(name: str) -> str:
     """Returns a text field of the project."""
-    match = re.search(rf'(?m)^{name} = "(.*)"$', project())
-    assert match, name
-    return match[1]
+    return line(f'{name} = "(.*)"')[1]
 
 
 def texts(name: str) -> list[str]:
     """Returns the texts of a list of the project, which has a text in each line."""
-    match = re.search(rf"(?ms)^{name} = \[$(.*?)^\]$", project())
-    assert match, name
-    return re.findall(r'(?m)^    "(.*)",$', match[1])
+    return re.findall('    "(.*)",\n', line(rf"{name} = \[\n((?:    .*\n)*)\]")[1])
 
 
 def commands() -> dict[str, str]:
     """Returns the modules of the commands, by the names of the commands."""
-    text = (HERE / "pyproject.toml").read_text(encoding="utf-8")
-    section = text.partition("\n[project.scripts]\n")[2].partition("\n[")[0]
-    return dict(re.findall(r'(?m)^(\S+) = "(.*):main"$', section))
+    return dict(re.findall('(\\S+) = "(.*):main"\n', line(r"\[project.scripts\]\n((?:.+\n)*)")[1]))
 
 
 def entry_points() -> bytes:
@@ -107,18 +102,9 @@ def entry_points() -> bytes:
     return "".join(["[console_scripts]\n", *(f"{name} = {it}:main\n" for name, it in commands().items())]).encode()
 
 
-def author() -> str:
-    """Returns the author of the project in the form of a metadata header."""
-    match = re.search(r'(?m)^authors = \[\{ name = "(.*)", email = "(.*)" \}\]$', project())
-    assert match, "no author"
-    return f"{match[1]} <{match[2]}>"
-
-
 def version() -> str:
     """Returns the version of the package."""
-    match = re.search(r'(?m)^__version__ = "(.*)"$', (HERE / "fv/__init__.py").read_text(encoding="utf-8"))
-    assert match, "no version"
-    return match[1]
+    return line('__version__ = "(.*)"', "fv/__init__.py")[1]
 
 
 def title() -> str:
@@ -131,7 +117,8 @@ def metadata() -> bytes:
     # The metadata are of version 2.1, whose field License every pip shows. The pip of Debian 12 does not know the field
     # License-Expression of version 2.4, which forbids License beside it.
     lines = ["Metadata-Version: 2.1", f"Name: {field('name')}", f"Version: {version()}"]
-    lines += [f"Summary: {field('description')}", f"Author-email: {author()}"]
+    author = line(r'authors = \[\{ name = "(.*)", email = "(.*)" \}\]')
+    lines += [f"Summary: {field('description')}", f"Author-email: {author[1]} <{author[2]}>"]
     lines += [f"Keywords: {','.join(texts('keywords'))}", *(f"Classifier: {it}" for it in texts("classifiers"))]
     lines += [f"License: {field('license')}"]
     lines += [f"Requires-Python: {field('requires-python')}"]

@@ -14,16 +14,13 @@ import argparse
 import importlib
 import os
 import re
-import sys
 import textwrap
 from collections.abc import Iterator
 from pathlib import Path
 
-HERE = Path(__file__).resolve().parent
-ROOT = HERE.parent
-
 import backend
 
+ROOT = Path(__file__).resolve().parent.parent
 DOCUMENTS = "/usr/share/doc/fvtool"  # the folder that the pages name
 SIGNS = str.maketrans({"\\": r"\e", "-": r"\-", "'": r"\(aq", "^": r"\(ha", "~": r"\(ti"})
 # The term of an item: code and emphasis.

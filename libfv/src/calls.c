@@ -8,18 +8,7 @@
  * argument. */
 #include "arguments.h"
 
-fv_result fvp_header_read(const void *, size_t, fv_header *, fv_fault *);
-fv_result fvp_image_scan(const void *, size_t, fv_header *, size_t, size_t *, fv_fault *);
-fv_result fvp_image_check(const void *, size_t, fv_volume_check *, size_t, size_t *, fv_fault *);
-fv_result fvp_image_normalise(const void *, size_t, void *, size_t, fv_fault *);
-fv_result fvp_volume_is_canonical(const void *, size_t, uint32_t *, fv_fault *);
-fv_result fvp_volume_normalise(const void *, size_t, void *, size_t, fv_fault *);
-fv_result fvp_volume_unfix(const void *, size_t, void *, size_t, fv_fault *);
-fv_result fvp_volume_digest(const void *, size_t, fv_sha256 *, fv_fault *);
 fv_result fvp_volume_compare(const void *, size_t, const void *, size_t, char *, size_t, fv_comparison *, fv_fault *);
-fv_result fvp_volume_cells(const void *, size_t, fv_cell *, size_t, size_t *, fv_fault *);
-fv_result fvp_volume_tree(const void *, size_t, fv_node *, size_t, size_t *, fv_fault *);
-fv_result fvp_volume_tree_digests(const void *, size_t, fv_sha256 *, size_t, size_t *, fv_fault *);
 fv_result fvp_volume_extract(const void *, size_t, size_t, void *, size_t, size_t *, fv_fault *);
 fv_result fvp_depex_evaluate(const void *, size_t, uint32_t, const fv_guid *, size_t, uint32_t *, fv_fault *);
 fv_result fvp_hobs_read(const void *, size_t, fv_hob *, size_t, size_t *, size_t *, fv_fault *);
@@ -50,62 +39,47 @@ INLINE void *buffer_of(void *pointer)
     return LIKELY(pointer != NULL) ? pointer : nothing;
 }
 
-fv_result fv_header_read(const void *bytes, size_t size, fv_header *header, fv_fault *fault)
-{
-    NEEDS_FAULT(fv_header_read(bytes, size, header, &unwanted))
-    CHECK(BYTES(bytes, size), RESULT(header));
-    return fvp_header_read(input(bytes), size, header, fault);
-}
+/* Defines a call that writes one value about its input. */
+#define VALUE_CALL(name, type)                                                                                        \
+    fv_result fvp_##name(const void *, size_t, type *, fv_fault *);                                                   \
+    fv_result fv_##name(const void *bytes, size_t size, type *value, fv_fault *fault)                                 \
+    {                                                                                                                 \
+        NEEDS_FAULT(fv_##name(bytes, size, value, &unwanted))                                                         \
+        CHECK(BYTES(bytes, size), RESULT(value));                                                                     \
+        return fvp_##name(input(bytes), size, value, fault);                                                          \
+    }
 
-fv_result fv_image_scan(const void *image, size_t size, fv_header *rows, size_t room, size_t *count, fv_fault *fault)
-{
-    NEEDS_FAULT(fv_image_scan(image, size, rows, room, count, &unwanted))
-    CHECK(BYTES(image, size), ROWS(rows, room), RESULT(count));
-    return fvp_image_scan(input(image), size, buffer_of(rows), room, count, fault);
-}
+/* Defines a call that writes as many bytes as its input has. */
+#define IMAGE_CALL(name)                                                                                              \
+    fv_result fvp_##name(const void *, size_t, void *, size_t, fv_fault *);                                           \
+    fv_result fv_##name(const void *bytes, size_t size, void *buffer, size_t buffer_size, fv_fault *fault)            \
+    {                                                                                                                 \
+        NEEDS_FAULT(fv_##name(bytes, size, buffer, buffer_size, &unwanted))                                           \
+        CHECK(BYTES(bytes, size), BUFFER(buffer, buffer_size));                                                       \
+        return fvp_##name(input(bytes), size, buffer_of(buffer), buffer_size, fault);                                 \
+    }
 
-fv_result fv_image_check(const void *image, size_t size, fv_volume_check *rows, size_t room, size_t *count,
-                         fv_fault *fault)
-{
-    NEEDS_FAULT(fv_image_check(image, size, rows, room, count, &unwanted))
-    CHECK(BYTES(image, size), ROWS(rows, room), RESULT(count));
-    return fvp_image_check(input(image), size, buffer_of(rows), room, count, fault);
-}
+/* Defines a call that writes rows about its input. */
+#define ROWS_CALL(name, type)                                                                                         \
+    fv_result fvp_##name(const void *, size_t, type *, size_t, size_t *, fv_fault *);                                 \
+    fv_result fv_##name(const void *bytes, size_t size, type *rows, size_t room, size_t *count, fv_fault *fault)      \
+    {                                                                                                                 \
+        NEEDS_FAULT(fv_##name(bytes, size, rows, room, count, &unwanted))                                             \
+        CHECK(BYTES(bytes, size), ROWS(rows, room), RESULT(count));                                                   \
+        return fvp_##name(input(bytes), size, buffer_of(rows), room, count, fault);                                   \
+    }
 
-fv_result fv_image_normalise(const void *image, size_t size, void *buffer, size_t buffer_size, fv_fault *fault)
-{
-    NEEDS_FAULT(fv_image_normalise(image, size, buffer, buffer_size, &unwanted))
-    CHECK(BYTES(image, size), BUFFER(buffer, buffer_size));
-    return fvp_image_normalise(input(image), size, buffer_of(buffer), buffer_size, fault);
-}
-
-fv_result fv_volume_is_canonical(const void *volume, size_t size, uint32_t *canonical, fv_fault *fault)
-{
-    NEEDS_FAULT(fv_volume_is_canonical(volume, size, canonical, &unwanted))
-    CHECK(BYTES(volume, size), RESULT(canonical));
-    return fvp_volume_is_canonical(input(volume), size, canonical, fault);
-}
-
-fv_result fv_volume_normalise(const void *volume, size_t size, void *buffer, size_t buffer_size, fv_fault *fault)
-{
-    NEEDS_FAULT(fv_volume_normalise(volume, size, buffer, buffer_size, &unwanted))
-    CHECK(BYTES(volume, size), BUFFER(buffer, buffer_size));
-    return fvp_volume_normalise(input(volume), size, buffer_of(buffer), buffer_size, fault);
-}
-
-fv_result fv_volume_unfix(const void *volume, size_t size, void *buffer, size_t buffer_size, fv_fault *fault)
-{
-    NEEDS_FAULT(fv_volume_unfix(volume, size, buffer, buffer_size, &unwanted))
-    CHECK(BYTES(volume, size), BUFFER(buffer, buffer_size));
-    return fvp_volume_unfix(input(volume), size, buffer_of(buffer), buffer_size, fault);
-}
-
-fv_result fv_volume_digest(const void *volume, size_t size, fv_sha256 *digest, fv_fault *fault)
-{
-    NEEDS_FAULT(fv_volume_digest(volume, size, digest, &unwanted))
-    CHECK(BYTES(volume, size), RESULT(digest));
-    return fvp_volume_digest(input(volume), size, digest, fault);
-}
+VALUE_CALL(header_read, fv_header)
+VALUE_CALL(volume_is_canonical, uint32_t)
+VALUE_CALL(volume_digest, fv_sha256)
+IMAGE_CALL(image_normalise)
+IMAGE_CALL(volume_normalise)
+IMAGE_CALL(volume_unfix)
+ROWS_CALL(image_scan, fv_header)
+ROWS_CALL(image_check, fv_volume_check)
+ROWS_CALL(volume_cells, fv_cell)
+ROWS_CALL(volume_tree, fv_node)
+ROWS_CALL(volume_tree_digests, fv_sha256)
 
 fv_result fv_volume_compare(const void *first, size_t first_size, const void *second, size_t second_size, char *text,
                             size_t text_size, fv_comparison *found, fv_fault *fault)
@@ -114,28 +88,6 @@ fv_result fv_volume_compare(const void *first, size_t first_size, const void *se
     CHECK(BYTES(first, first_size), BYTES(second, second_size), BUFFER(text, text_size), RESULT(found));
     return fvp_volume_compare(input(first), first_size, input(second), second_size, buffer_of(text), text_size, found,
                               fault);
-}
-
-fv_result fv_volume_cells(const void *volume, size_t size, fv_cell *rows, size_t room, size_t *count, fv_fault *fault)
-{
-    NEEDS_FAULT(fv_volume_cells(volume, size, rows, room, count, &unwanted))
-    CHECK(BYTES(volume, size), ROWS(rows, room), RESULT(count));
-    return fvp_volume_cells(input(volume), size, buffer_of(rows), room, count, fault);
-}
-
-fv_result fv_volume_tree(const void *volume, size_t size, fv_node *rows, size_t room, size_t *count, fv_fault *fault)
-{
-    NEEDS_FAULT(fv_volume_tree(volume, size, rows, room, count, &unwanted))
-    CHECK(BYTES(volume, size), ROWS(rows, room), RESULT(count));
-    return fvp_volume_tree(input(volume), size, buffer_of(rows), room, count, fault);
-}
-
-fv_result fv_volume_tree_digests(const void *volume, size_t size, fv_sha256 *rows, size_t room, size_t *count,
-                                 fv_fault *fault)
-{
-    NEEDS_FAULT(fv_volume_tree_digests(volume, size, rows, room, count, &unwanted))
-    CHECK(BYTES(volume, size), ROWS(rows, room), RESULT(count));
-    return fvp_volume_tree_digests(input(volume), size, buffer_of(rows), room, count, fault);
 }
 
 fv_result fv_volume_extract(const void *volume, size_t size, size_t row, void *buffer, size_t buffer_size,

@@ -61,7 +61,9 @@ def _load() -> c.CDLL:
         library = c.CDLL(path)
         number: int = library.fv_version_number()
         if number >> 16 == native.VERSION_MAJOR:
-            native.declare(library)
+            for name, (result, arguments) in native.CALLS.items():
+                call = getattr(library, name)
+                call.restype, call.argtypes = result, arguments
             return library
     except (OSError, AttributeError) as error:
         raise ImportError(f"{error}{hint}", name="fv", path=path) from error
@@ -136,16 +138,11 @@ class Held:
             _release_view(self._view)
 
 
-def of_32_bits(number: SupportsIndex) -> int:
-    """Returns the number if it has at most 32 bits; ctypes would cut a larger one."""
-    index = operator.index(number)
-    if not 0 <= index < 2**32:
-        raise ValueError(f"{index} is not a number of 32 bits")
-    return index
-
-
 def result_text(result: SupportsIndex) -> str:
     """Returns a sentence that explains a result of a call: a fault's code, or another number of fv.h. Raises ValueError
     if the number has more than 32 bits."""
-    text: bytes = lib.fv_result_text(of_32_bits(result))
+    index = operator.index(result)
+    if not 0 <= index < 2**32:  # ctypes would cut it
+        raise ValueError(f"{index} is not a number of 32 bits")
+    text: bytes = lib.fv_result_text(index)
     return text.decode()

@@ -189,11 +189,3 @@ class Phase(enum.IntEnum):
 
     PEI = 0
     DXE = 1
-
-
-def declare(library: c.CDLL) -> None:
-    """Gives each call of the library the types of its parameters and of its result. Raises AttributeError if the
-    library has no such call."""
-    for name, (result, arguments) in CALLS.items():
-        call = getattr(library, name)
-        call.restype, call.argtypes = result, arguments

@@ -11,9 +11,7 @@ const VERSIONS: [&str; 2] = ["libfv >= 2.1", "libfv < 3"];
 /// Reports why the crate cannot be linked, and ends the build.
 fn fail(why: &str) -> ! {
     eprintln!("libfv 2 is not found: {why}");
-    eprintln!(
-        "Install it (make install-lib), or name the folder of libfv.a or libfv.so by LIBFV_DIR."
-    );
+    eprintln!("Install it (make install-lib), or name the folder of libfv.a or libfv.so by LIBFV_DIR.");
     exit(1)
 }
 
@@ -67,11 +65,7 @@ fn named_folder(folder: &Path, is_static: bool) -> Vec<PathBuf> {
     let files = names.iter().map(|it| folder.join(it));
     let files: Vec<PathBuf> = files.filter(|it| it.exists()).collect();
     if files.is_empty() {
-        fail(&format!(
-            "no {} in {}",
-            names.join(" and no "),
-            folder.display()
-        ));
+        fail(&format!("no {} in {}", names.join(" and no "), folder.display()));
     }
     for file in files {
         println!("cargo:rerun-if-changed={}", file.display());
@@ -103,8 +97,5 @@ fn main() {
     for folder in folders {
         println!("cargo:rustc-link-search=native={}", folder.display());
     }
-    println!(
-        "cargo:rustc-link-lib={}fv",
-        if is_static { "static=" } else { "" }
-    );
+    println!("cargo:rustc-link-lib={}fv", if is_static { "static=" } else { "" });
 }

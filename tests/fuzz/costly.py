@@ -1,6 +1,5 @@
 # SPDX-License-Identifier: BSD-2-Clause-Patent
-"""Makes the inputs that are meant to be costly. costs.py runs the program and the commands of the package over
-them."""
+"""Makes the inputs that are meant to be costly, over which costs.py runs commands."""
 
 from __future__ import annotations
 
@@ -9,6 +8,7 @@ import lzma
 import random
 import struct
 from collections.abc import Callable
+from functools import partial, reduce
 from typing import Any
 
 from tests import making
@@ -26,7 +26,10 @@ QUICK = [{"id": lzma.FILTER_LZMA1, "preset": 1, "lc": 0, "lp": 0, "pb": 0, "nice
 FOR_CODE = [{"id": lzma.FILTER_LZMA1, "preset": 6, "lc": 0, "nice_len": 273}]
 
 
-# Parts of inputs
+# Parts of inputs: a section with a volume, a group, a CRC-32 section with a wrong sum, a section with compressed data
+in_section, group = partial(section, VOLUME), partial(section, GROUP)
+summed = partial(guided, CRC32, attributes=2, fields=bytes(4))
+packed = partial(making.compressed, filters=QUICK)
 
 
 def volume(*files: bytes) -> bytes:
@@ -44,29 +47,9 @@ def holder(*sections: bytes) -> bytes:
     return volume(file(stream(*sections)))
 
 
-def in_section(inner: bytes) -> bytes:
-    """Returns a section with a volume."""
-    return section(VOLUME, inner)
-
-
 def held(inner: bytes) -> bytes:
     """Returns a volume with a volume in a section."""
     return holder(in_section(inner))
-
-
-def group(inner: bytes) -> bytes:
-    """Returns a group."""
-    return section(GROUP, inner)
-
-
-def summed(inner: bytes) -> bytes:
-    """Returns a CRC-32 section with a wrong sum."""
-    return guided(CRC32, inner, 2, bytes(4))
-
-
-def packed(data: bytes) -> bytes:
-    """Returns a section with compressed data."""
-    return making.compressed(data, QUICK)
 
 
 def squeezed(contents: bytes) -> bytes:
@@ -76,16 +59,12 @@ def squeezed(contents: bytes) -> bytes:
 
 def nested(levels: int, data: bytes, wrap: Callable[[bytes], bytes]) -> bytes:
     """Returns data that are wrapped this many times."""
-    for _ in range(levels):
-        data = wrap(data)
-    return data
+    return reduce(lambda inner, _: wrap(inner), range(levels), data)
 
 
-def flipped(data: bytes, at: int = -1, bits: int = 1) -> bytes:
-    """Returns the bytes with other bits at one place, the last byte if none is given."""
-    found = bytearray(data)
-    found[at] ^= bits
-    return bytes(found)
+def flipped(data: bytes, at: int, bits: int = 1) -> bytes:
+    """Returns the bytes with other bits at one place."""
+    return data[:at] + bytes([data[at] ^ bits]) + data[at + 1 :]
 
 
 def repeated(block: bytes, size: int, parts: int = ALL) -> bytes:
@@ -117,11 +96,6 @@ def file_of(block: bytes) -> Make:
     return lambda size, parts: holder(repeated(block, size, parts))
 
 
-def without_limit(make: Make) -> Make:
-    """Makes an input of as many parts as fit."""
-    return lambda size, _: make(size, ALL)
-
-
 def named(count: int, state: int = VALID) -> bytes:
     """Returns files without data. Their names differ only in the last three bytes."""
     block = bytearray(file_head(bytes(16), RAW_FILE, 0, 24, state=state ^ 0xFF) * 256)
@@ -150,19 +124,14 @@ def mixed(size: int, _parts: int) -> bytes:
     return volume(*heads)
 
 
-def alike(data: bytes, share: int = 1) -> Make:
-    """Makes a volume of files with different names and the same data. Each file counts for this many parts."""
-
-    def make(size: int, parts: int) -> bytes:
-        count = max(1, min(size // (32 + len(data)), parts // share))
-        return volume(*(making.file(guid(it), data, FREEFORM) for it in range(1, count + 1)))
-
-    return make
+def alike(data: bytes, size: int, parts: int, kind: int = FREEFORM) -> bytes:
+    """Makes a volume of files with different names and the same data."""
+    count = max(1, min(size // (32 + len(data)), parts))
+    return volume(*(making.file(guid(it), data, kind) for it in range(1, count + 1)))
 
 
 def summed_heads(size: int, _parts: int) -> bytes:
-    """Makes a header of 2112 bytes with a right checksum at each multiple of 40. Its block map lacks the pair of
-    zeros."""
+    """Makes a header of 2112 bytes with a right checksum, and no pair of zeros, at each multiple of 40."""
     cycle = b"_FVH" + struct.pack("<IHHHBB", 0x800, 2112, 0, 0, 0, 2) + FFS3 + struct.pack("<Q", 2112)
     rest = sum16((cycle * 53)[:2112])  # the 53 checksums in a header are to add up to this
     cycle = cycle[:10] + struct.pack("<H", rest * pow(53, -1, 1 << 16) & 0xFFFF) + cycle[12:]
@@ -170,8 +139,7 @@ def summed_heads(size: int, _parts: int) -> bytes:
 
 
 def extended(entry: bytes, count: int) -> Make:
-    """Makes a volume with volumes in sections, each with an extended header that has this entry as often as `count`
-    says."""
+    """Makes a volume with volumes in sections, whose extended headers have this entry as often as `count` says."""
     ext = bytes(16) + struct.pack("<I", 20 + len(entry) * count) + entry * count
     ext += b"\xff" * (-len(ext) % 8)
     return file_of(in_section(header(72 + len(ext), 72, FFS3) + ext))
@@ -187,11 +155,6 @@ def no_bits(length: int, width: int, has_matches: bool) -> bytes:
         fields.append(f"{count:016b}" + "0" * 19 + f"{256 if is_match else 0x41:09b}" + "0" * (2 * width))
         left -= count * (3 if is_match else 1)
     return making.with_lengths("".join(fields), length)
-
-
-def by_uefi(length: int, has_matches: bool) -> bytes:
-    """Returns a volume with a section that has the compression of the UEFI specification."""
-    return holder(compression(no_bits(length, 4, has_matches), length, 1))
 
 
 def by_brotli(size: int, _parts: int) -> bytes:
@@ -216,7 +179,7 @@ def around(data: bytes) -> bytes:
 
 # Volumes, and bytes beside volumes, for the program and for the package
 BOTH: Inputs = {
-    "signatures": without_limit(many(b"_FVH\0\0\0\0")),  # at each multiple of 8
+    "signatures": lambda size, _: repeated(b"_FVH\0\0\0\0", size),  # at each multiple of 8
     "summed_heads": summed_heads,
     "stubs": files_of(STUB),  # headers under construction
     "pads": files_of(PAD),  # pads that hold a byte each
@@ -261,20 +224,20 @@ FOR_PROGRAM: Inputs = {
 # Volumes, and bytes beside volumes, for the package
 FOR_PACKAGE: Inputs = {
     # Files whose names have 4,096 characters that cannot be seen, and 200 characters that are escaped in HTML
-    "long_names": alike(section(UI, b"\x00\xd8" * 4096), 2),
-    "marked_names": alike(section(UI, "aA&'<\">".encode("utf-16-le") * 29), 2),
+    "long_names": lambda size, parts: alike(section(UI, b"\x00\xd8" * 4096), size, parts // 2),
+    "marked_names": lambda size, parts: alike(section(UI, "aA&'<\">".encode("utf-16-le") * 29), size, parts // 2),
     # Deleted files without data: as many as the parts, and as many as fit; and also as many pads and volumes as fit
     "dead_files": files_of(GONE),
-    "more_dead_files": without_limit(files_of(GONE)),
-    "more_pads": without_limit(files_of(PAD)),
-    "more_volumes": without_limit(many(BARE)),
+    "more_dead_files": lambda size, _: volume(repeated(GONE, size)),
+    "more_pads": lambda size, _: volume(repeated(PAD, size)),
+    "more_volumes": lambda size, _: repeated(BARE, size),
     # Volumes side by side whose only file has a header with a wrong sum
     "wrong_volumes": many(flipped(volume(named(1)), 72 + 16)),
     # The signature at each odd multiple of 4 and a byte more
     "odd_signatures": lambda size, _: bytes(1) + repeated(b"_FVH", size),
     # Headers that claim all bytes after them with a wrong sum, and headers of revision 1, at each multiple of 72
     "likely_headers": lambda size, _: repeated(flipped(header(size // 2 & ~7, system=FFS3), 50), size),
-    "old_headers": without_limit(many(flipped(BARE, 55, 3))),
+    "old_headers": lambda size, _: repeated(flipped(BARE, 55, 3), size),
 }
 # Sections for the package
 SECTIONS: Inputs = {
@@ -303,8 +266,8 @@ SECTIONS: Inputs = {
 }
 # Images for the package that are packed already, and hold this many bytes or parts
 PACKED: Inputs = {
-    "uefi_matches": lambda size, _: by_uefi(size // 4, True),
-    "uefi_bytes": lambda size, _: by_uefi(size // 4, False),
+    "uefi_matches": lambda size, _: holder(compression(no_bits(size // 4, 4, True), size // 4, 1)),
+    "uefi_bytes": lambda size, _: holder(compression(no_bits(size // 4, 4, False), size // 4, 1)),
     "tiano_bytes": lambda size, _: holder(guided(making.TIANO, no_bits(size // 4, 5, False))),
     # Eight opened sections in one another, in each of which seven groups are around eight volumes in one another
     "deepest": lambda size, _: holder(nested(8, section(RAW, bytes(max(size >> 9, 8))), around)),

@@ -44,6 +44,7 @@ from tests.checks import ROOT
 from tests.frame import LIBRARY, PROGRAM
 from tests.fuzz.costly import ALL, BOTH, FOR_PACKAGE, FOR_PROGRAM, MIB, PACKED, RATIOS, SECTIONS
 from tests.fuzz.costly import Inputs, alike, flipped, holder, named, squeezed, volume
+from tests.making import RAW_FILE
 
 # Each command with its arguments. IMAGE, OTHER, COPY and FOLDER take the place of an input, of the same input with one
 # byte changed, of its copy, and of a new folder.
@@ -71,20 +72,16 @@ OTHER_READERS = ("VolInfo", "UEFIExtract")
 HEAD = f"{'input':24} {'bytes':>10} {'command':30} status {'seconds':>9} {'of first':>8} {'MiB':>8} {'of input':>9}"
 HEAD += f" {'most MiB':>9} {'output':>11}"
 # Volumes of files with 64 KiB of data each, of files without data, and of empty sections
-DATA_FILES = alike(bytes(range(256)) * 256)
+DATA_FILES = partial(alike, bytes(range(256)) * 256, kind=RAW_FILE)
 PLAIN: Inputs = {"data_files": DATA_FILES, "small_files": BOTH["names"], "sections": FOR_PROGRAM["empty_sections"]}
 HELD = 128 * MIB  # bytes that a small bomb holds
 PARTS = 98_000  # parts of a bomb of many parts
 Shape = Callable[[bytes], bytes]
-# The contents of bombs, and the shape around each: packed or not, in a file or as they are.
-SMALL: tuple[tuple[Inputs, Shape], ...] = ((SECTIONS | BOTH | FOR_PACKAGE, squeezed), (PACKED, bytes))
-LARGE: tuple[tuple[Inputs, Shape], ...] = ((SECTIONS, holder), (BOTH | FOR_PACKAGE, bytes))
 
 
 @dataclass(frozen=True)
 class Most:
-    """The limits of a run: its seconds of processor time, its peak of memory in bytes, and its bytes of output, if they
-    are counted."""
+    """The limits of a run: seconds of processor time, the peak of memory, and the output in bytes, if it is counted."""
 
     seconds: float
     peak: float
@@ -93,8 +90,7 @@ class Most:
 
 @dataclass(frozen=True)
 class Cost:
-    """The cost of a run: its exit status, its seconds of processor time, its peak of memory and its output in bytes,
-    and the last line of its standard error."""
+    """The cost of a run: its status, processor time, peak of memory, bytes of output, and last line of errors."""
 
     status: int
     seconds: float
@@ -110,13 +106,13 @@ class Cost:
 
 @dataclass(frozen=True)
 class Input:
-    """An input under trial: its name, its contents, the shape around them, and the limits of a command over an input of
-    a length."""
+    """An input under trial: its name, its contents, the shape around them (packed or not, in a file or as they are),
+    and the seconds that a run over it may take."""
 
     name: str
     contents: Callable[[], bytes]
     shape: Shape
-    most: Callable[[str, int], Most]
+    seconds: float
 
     def data(self) -> bytes:
         """Returns the input."""
@@ -124,7 +120,17 @@ class Input:
 
     def changed(self) -> bytes:
         """Returns the input with the last byte of its contents changed."""
-        return self.shape(flipped(self.contents()))
+        data = self.contents()
+        return self.shape(flipped(data, len(data) - 1))
+
+    def most(self, what: str, command: str, length: int) -> Most:
+        """Returns the limits of a command over the input, which has this length."""
+        if what == "speed":
+            return Most(math.inf, math.inf)
+        if what == "package":
+            return Most(self.seconds, 4 << 30, 300_000_000 + ("FOLDER" in command) * (HELD + 32 * length))
+        seconds = self.seconds * (20 / 3 if "--sums" in command else 1)
+        return Most(seconds, RATIOS.get(self.name, 2) * length * command.count("IMAGE") + 64 * MIB)
 
 
 def run(words: list[str], most: Most) -> Cost:
@@ -160,48 +166,34 @@ def write_apart(path: Path, make: Callable[[], bytes]) -> int:
 
 
 def inputs(given: argparse.Namespace) -> Iterator[Input]:
-    """Yields the inputs for the program."""
-    size, part = given.mib * MIB - 4096, max(given.mib / 16, 1)
-    for name, make in (BOTH | FOR_PROGRAM).items():
-
-        def most(command: str, length: int, ratio: int = RATIOS.get(name, 2)) -> Most:
-            seconds = 20 if "--sums" in command else 3
-            return Most(seconds * part, ratio * length * command.count("IMAGE") + 64 * MIB)
-
-        yield Input(name, partial(make, size, ALL), bytes, most)
-
-
-def bombs(given: argparse.Namespace) -> Iterator[Input]:
-    """Yields the inputs for the package: images of some KiB that hold many bytes or parts, and large images of parts
-    that are not packed."""
-
-    def most(seconds: float, command: str, length: int) -> Most:
-        return Most(seconds, 4 << 30, 300_000_000 + ("FOLDER" in command) * (HELD + 32 * length))
-
-    size, parts, limits = (HELD // 20, PARTS // 20, 3) if given.brief else (HELD - MIB, PARTS, 10)
-    for table, shape in () if given.large else SMALL:
+    """Yields the inputs of a mode. The bombs for the package are images of some KiB that hold many bytes or parts, and
+    large images of parts that are not packed."""
+    size = given.mib * MIB - 4096
+    files: Inputs = {path.name: lambda *_, path=path: path.read_bytes() for path in given.volumes}
+    small = ("", HELD // 20, PARTS // 20, 3) if given.brief else ("", HELD - MIB, PARTS, 10)
+    large = "large_", 16 * MIB - 4096, PARTS, 60
+    # Each table of inputs, with the shape, the start of the names, the size, the number of parts, and the seconds.
+    tables: dict[str, list[tuple[Inputs, Shape, tuple[str, int, int, float]]]] = {
+        "program": [(BOTH | FOR_PROGRAM, bytes, ("", size, ALL, 3 * max(given.mib / 16, 1)))],
+        "speed": [(files or PLAIN, bytes, ("", size, ALL, math.inf))],
+        "package": [
+            (SECTIONS | BOTH | FOR_PACKAGE, squeezed, small),
+            (PACKED, bytes, small),
+            (SECTIONS, holder, large),
+            (BOTH | FOR_PACKAGE, bytes, large),
+        ],
+    }
+    for table, shape, (before, length, parts, seconds) in tables[given.what][: 2 if given.brief else None]:
         for name, make in table.items():
-            yield Input(name, partial(make, size, parts), shape, partial(most, limits))
-    for table, shape in () if given.brief or given.small else LARGE:
-        for name, make in table.items():
-            yield Input(f"large_{name}", partial(make, 16 * MIB - 4096, PARTS), shape, partial(most, 60))
-
-
-def volumes(given: argparse.Namespace) -> Iterator[Input]:
-    """Yields the volumes whose reading is compared with other commands."""
-    for path in given.volumes:
-        yield Input(path.name, path.read_bytes, bytes, lambda *_: Most(math.inf, math.inf))
-    for name, make in {} if given.volumes else PLAIN.items():
-        yield Input(name, partial(make, given.mib * MIB - 4096, ALL), bytes, lambda *_: Most(math.inf, math.inf))
+            yield Input(before + name, partial(make, length, parts), shape, seconds)
 
 
 def measure(command: str, image: Path, other: Path, given: argparse.Namespace, most: Most) -> Cost:
-    """Runs a command over an input, and returns its cost, or the least cost of some runs. The files that it writes
-    count as output."""
+    """Runs a command over an input, and returns its least cost. The files that it writes count as output."""
     with tempfile.TemporaryDirectory(dir=image.parent) as folder:
         places = {"IMAGE": image, "OTHER": other, "COPY": f"{image}-copy", "FOLDER": Path(folder, "parts")}
         name, *words = (str(places.get(it, it)) for it in command.split())
-        ways = {"fvtool": [given.program], "fv": [sys.executable, "-m", "fv"]}
+        ways = {"fvtool": [str(PROGRAM)], "fv": [sys.executable, "-m", "fv"]}
         runs = given.runs if given.what == "speed" else 1
         costs = [run([*ways.get(name, [name]), *words], most) for _ in range(runs)]
         written = sum(it.stat().st_size for it in Path(folder).rglob("*") if it.is_file())
@@ -217,7 +209,7 @@ def try_input(it: Input, commands: list[str], given: argparse.Namespace) -> int:
         size = write_apart(image, it.data)
         write_apart(other, it.changed)
         shutil.copyfile(image, f"{image}-copy")
-        limits = [it.most(command, size) for command in commands]
+        limits = [it.most(given.what, command, size) for command in commands]
         costs = pool.map(lambda command, most: measure(command, image, other, given, most), commands, limits)
         for command, most, cost in zip(commands, limits, costs):
             first = first or max(cost.seconds, 1e-6)
@@ -230,8 +222,7 @@ def try_input(it: Input, commands: list[str], given: argparse.Namespace) -> int:
 
 
 def measured(data: bytes, runs: int, calls: int) -> dict[str, float]:
-    """Returns the least time in microseconds of each call that takes a volume: the time of the fastest run, divided by
-    the number of its calls. The volume is compared with a copy of itself."""
+    """Returns the least time in microseconds of each call that takes a volume, over some runs of so many calls."""
     names = [it for it in fv.__all__ if re.match("header_|image_|volume_(?!compare|extract)", it)]
     timed: dict[str, Callable[[], Any]] = {name: partial(getattr(fv, name), data) for name in names}
     timed["volume_compare"] = partial(fv.volume_compare, data, bytes(bytearray(data)))
@@ -261,10 +252,7 @@ def arguments() -> argparse.Namespace:
     reader.add_argument("--jobs", type=int, help="runs at the same time; by default all processors run the package")
     reader.add_argument("--write", metavar="FOLDER", type=Path, help="write the inputs, and run nothing")
     reader.add_argument("--mib", type=int, default=16, help="program, speed: about how large inputs are, at most 256")
-    reader.add_argument("--program", default=str(PROGRAM), help="the built program")
     reader.add_argument("--brief", action="store_true", help="package: small bombs that hold less")
-    reader.add_argument("--small", action="store_true", help="package: only the small bombs")
-    reader.add_argument("--large", action="store_true", help="package: only the large bombs")
     reader.add_argument("--runs", type=int, default=20, help="speed, library: how many runs of each command or call")
     given = reader.parse_args()
     given.jobs = given.jobs or (os.cpu_count() if given.what == "package" else 1)
@@ -283,9 +271,9 @@ def main() -> int:
     commands = [it for it in COMMANDS[given.what] if not given.command or {*it.split()} & {*given.command}]
     others = [it for it in OTHER_READERS if not (given.volumes and shutil.which(it))]
     commands = [it for it in commands if it.split()[0] not in others]
-    over, chosen = 0, {"program": inputs, "package": bombs, "speed": volumes}[given.what](given)
+    over = 0
     print(HEAD)
-    for it in (it for it in chosen if not given.only or it.name in given.only):
+    for it in (it for it in inputs(given) if not given.only or it.name in given.only):
         if given.write:
             given.write.mkdir(parents=True, exist_ok=True)
             for end, make in ("", it.data), ("-other", it.changed):

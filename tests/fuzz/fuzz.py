@@ -19,8 +19,7 @@ from pathlib import Path
 
 from tests.checks import ROOT
 from tests.frame import PROGRAM
-from tests.fuzz.cases import make_case
-from tests.fuzz.lists import Case
+from tests.fuzz.cases import Case, make_case
 from tests.fuzz.program import Program, Wrong
 from tests.fuzz.promises import CHECKS
 
@@ -37,12 +36,16 @@ def write_case(folder: Path, name: str, case: Case) -> Path:
 
 
 def try_one(given: argparse.Namespace, room: Path, index: int) -> tuple[str, int]:
-    """Makes one input, and checks the program over it. Returns the outcome and the number of runs. An input for which a
-    promise is not kept is a finding, and is kept."""
+    """Makes one input, and writes it or checks the program over it. Returns the outcome and the number of runs. An
+    input for which a promise is not kept is a finding, and is kept."""
     case = make_case(given.seed, index)
+    if given.show:
+        stem = write_case(given.keep, f"{given.seed}-{index}", case)
+        print(f"{stem}.*: {case.kind}, {len(case.data)} bytes, base {case.base}")
+        return "written", 0
     folder = room / str(threading.get_ident())
     folder.mkdir(exist_ok=True)
-    program = Program(given.program.resolve(), given.seconds, folder, random.Random(f"{given.seed}/{index} checks"))
+    program = Program(PROGRAM.resolve(), given.seconds, folder, random.Random(f"{given.seed}/{index} checks"))
     try:
         return CHECKS[case.kind](program, case), program.calls
     except Wrong as wrong:
@@ -51,18 +54,6 @@ def try_one(given: argparse.Namespace, room: Path, index: int) -> tuple[str, int
         Path(f"{stem}.txt").write_text(f"{case.kind}: {wrong}\nbase {case.base}\nagain: {again}\n", encoding="utf-8")
         print(f"FINDING {index} ({case.kind}): {wrong}\n  kept as {stem}.*; again: {again}", flush=True)
         return "finding", program.calls
-
-
-def summary(given: argparse.Namespace, outcomes: collections.Counter[str], calls: int, took: float) -> str:
-    """Returns the line of figures after this many runs and seconds."""
-    faults = sorted((int(it.split()[1]), count) for it, count in outcomes.items() if it.startswith("refused"))
-    by_number = ", ".join(f"{number}: {count}" for number, count in faults)
-    others = ", ".join(f"{it} {outcomes[it]}" for it in ("scanned", "list accepted", "list refused"))
-    return (
-        f"count {sum(outcomes.values())} seed {given.seed} first {given.first}: volumes accepted "
-        f"{outcomes['accepted']}, refused {sum(count for _, count in faults)} ({by_number}); {others}; "
-        f"runs {calls}, seconds {took:.0f}, findings {outcomes['finding']}"
-    )
 
 
 def try_all(given: argparse.Namespace, room: Path) -> int:
@@ -78,17 +69,10 @@ def try_all(given: argparse.Namespace, room: Path) -> int:
                     runs += calls
         except KeyboardInterrupt:
             pool.shutdown(cancel_futures=True)
-    print(summary(given, outcomes, runs, time.monotonic() - start))
+    counts, took = ", ".join(f"{it}: {count}" for it, count in sorted(outcomes.items())), time.monotonic() - start
+    print(f"{sum(outcomes.values())} inputs from {given.first}, seed {given.seed}: {counts}")
+    print(f"{runs} runs, {took:.0f} seconds, {outcomes['finding']} findings")
     return 1 if outcomes["finding"] else 0
-
-
-def show(given: argparse.Namespace) -> int:
-    """Writes inputs as files, and runs nothing. Returns the exit status."""
-    for index in range(given.first, given.first + given.count):
-        case = make_case(given.seed, index)
-        stem = write_case(given.keep, f"{given.seed}-{index}", case)
-        print(f"{stem}.*: {case.kind}, {len(case.data)} bytes", f"base {case.base}" if case.image is not None else "")
-    return 0
 
 
 def main() -> int:
@@ -97,16 +81,13 @@ def main() -> int:
     reader.add_argument("--count", type=int, default=1000, help="how many inputs; 0: until it is interrupted")
     reader.add_argument("--seed", type=int, default=int(time.time()), help="a number; by default the time")
     reader.add_argument("--first", type=int, default=0, help="the number of the first input")
-    reader.add_argument("--program", type=Path, default=PROGRAM, help="the built program")
     reader.add_argument("--jobs", type=int, default=os.cpu_count(), help="how many inputs at a time")
     reader.add_argument("--seconds", type=float, default=10, help="how long one run of the program may take")
     reader.add_argument("--keep", type=Path, default=KEPT, help="the folder for inputs with a finding")
     reader.add_argument("--show", action="store_true", help="write the inputs to that folder, and run nothing")
     given = reader.parse_args()
-    if given.show:
-        return show(given)
-    if not os.access(given.program, os.X_OK):
-        reader.error(f"{given.program} is not there: ./fvtool < crates/fv_tool/stdin builds it")
+    if not given.show and not os.access(PROGRAM, os.X_OK):
+        reader.error(f"{PROGRAM} is not there: ./fvtool < crates/fv_tool/stdin builds it")
     in_memory = "/dev/shm" if os.access("/dev/shm", os.W_OK) else None
     with tempfile.TemporaryDirectory(prefix="fuzz-", dir=in_memory) as room:
         return try_all(given, Path(room))

@@ -60,8 +60,7 @@ def spelled(pick: random.Random, data: bytes) -> bytes:
 
 @dataclass
 class Program:
-    """The program, run with files in a folder of its own, and for at most this many seconds in each run. A command is
-    given with its options."""
+    """The program, run with files in a folder of its own, and for at most this many seconds in each run."""
 
     path: Path
     seconds: float
@@ -104,8 +103,7 @@ class Program:
         return status, out
 
     def ask(self, command: str, *inputs: bytes, image: bytes | None = None, base: int = 0) -> Answer:
-        """Returns the answer of a command over these inputs, and checks its form. Now and then the same inputs are
-        given as text."""
+        """Returns the answer of a command, and checks its form. Now and then the same inputs are given as text."""
         status, out = self.once(command, *inputs, image=image, base=base)
         name = command.split()[0]
         require(status < 3, f"{command}: status 3", out)

@@ -10,7 +10,7 @@ import re
 import uuid
 from collections.abc import Callable
 
-from tests.fuzz.lists import Case, Extent
+from tests.fuzz.cases import Case, Extent
 from tests.fuzz.program import Program, fault, joined, line, require
 from tests.making import FIXED
 
@@ -48,8 +48,7 @@ def check_listed(program: Program, case: Case, image: bytes) -> None:
 
 
 def check_length(program: Program, case: Case, image: bytes) -> None:
-    """Checks that `list` ignores bytes after the volume, that other commands reject them, and that a proper prefix of
-    the volume is rejected."""
+    """Checks that `list` alone ignores bytes after the volume, and that a proper prefix of it is rejected."""
     more = case.data + program.pick.randbytes(1 + program.pick.randrange(40))
     program.expect(program.ask("list", case.data), "list", more)
     for command in ("normalise", "check", "unfix"):
@@ -99,8 +98,7 @@ def check_unfixed(program: Program, case: Case, _image: bytes) -> None:
 
 
 def check_sums(program: Program, case: Case, image: bytes) -> None:
-    """Checks that `list --sums` writes the lines of `list`, with the digests of the image and of the files that
-    `extract` writes."""
+    """Checks that `list --sums` writes the lines of `list`, with the digests of the image and of extracted files."""
     text = program.told("list --sums", case.data)
     program.expect((0, SUM.sub(b"", text)), "list", case.data)
     program.expect((0, text), "list --sums", image)
@@ -133,8 +131,7 @@ def check_accepted(program: Program, case: Case, image: bytes) -> None:
 
 
 def check_refused(program: Program, case: Case, refusal: bytes) -> None:
-    """Checks that other commands reject the volume with the same fault. (A volume without a layout still has a
-    meaning.)"""
+    """Checks that other commands reject the volume with the same fault, unless it only lacks a layout."""
     number, offset = (int(it) for it in re.findall(rb"\d+", refusal))
     require(case.lines is None or number in NO_LAYOUT, "a volume of the format is refused", refusal)
     command = program.pick.choice(("check", "list", "compare", "scan"))
@@ -167,15 +164,10 @@ def check_volume(program: Program, case: Case) -> str:
     return "accepted"
 
 
-def places_in(text: bytes) -> list[Extent]:
-    """Returns the places of the volumes in the output of `scan`."""
-    return [Extent(int(offset), int(length)) for offset, length in re.findall(rb"at (\d+) length (\d+)", text)]
-
-
 def check_places(program: Program, case: Case, text: bytes) -> None:
     """Checks the output of `scan`: the volumes are at multiples of 8, they follow one another, and each of them is also
     found on its own."""
-    places = places_in(text)
+    places = [Extent(int(offset), int(length)) for offset, length in re.findall(rb"at (\d+) length (\d+)", text)]
     require(text == joined(f"volume at {it.offset} length {it.length}" for it in places), "scan: other text", text)
     end = 0
     for place in places:

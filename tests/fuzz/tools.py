@@ -28,17 +28,18 @@ import time
 import traceback
 import uuid
 from collections.abc import Callable, Iterable, Iterator
+from pathlib import Path
 
 import fv
 from fv import images, same, sbom, text, unpack
+from fv._page import draw
 from fv._sheet import drawing_of
 from fv.limits import Full, Limits
-from fv.map import draw
 from fv.names import CODE, Names
 from tests import making
 from tests.frame import LIBRARY
-from tests.fuzz.cases import broken, make_case
-from tests.fuzz.fuzz import KEPT
+from tests.fuzz.cases import Case, broken, make_case
+from tests.fuzz.fuzz import KEPT, write_case
 from tests.fuzz.program import require
 
 SECONDS = 20
@@ -215,11 +216,9 @@ def try_one(seed: int, index: int) -> bool:
         check(data, twin, random.Random(f"{seed}/{index} other"))
         return False
     except Exception:
-        kept = KEPT / f"tools-{seed}-{index}"
-        KEPT.mkdir(exist_ok=True)
-        kept.with_suffix(".bin").write_bytes(data)
-        kept.with_suffix(".txt").write_text(traceback.format_exc(), encoding="utf-8")
-        print(f"finding: {kept}.bin: {traceback.format_exc().splitlines()[-1][:300]}", flush=True)
+        kept = write_case(KEPT, f"tools-{seed}-{index}", Case("image", data, twin=twin))
+        Path(f"{kept}.txt").write_text(traceback.format_exc(), encoding="utf-8")
+        print(f"finding: {kept}.input: {traceback.format_exc().splitlines()[-1][:300]}", flush=True)
         return True
 
 

@@ -14,22 +14,19 @@ NAME is the goal as the checker prints it in backquotes, for example `returns-cl
 function that the edit changes. A line `goal: MODULE::FUNCTION NAME` names the function too: an edit of a constant needs
 this, and is tried on its own. Several pairs of old and new are one edit.
 
-Many edits share a check of a copy of the crate, because the body of a function is proved from the contracts of the
-functions that it calls. Each edit changes a copy of its function, which nothing calls, or is alone in changing a
-function in place. All that the edits do not change is given and not proved again: the theorems of the other functions,
-the lemmas of the crate, and all goals of a changed function except the goal that its edit names. This can only let the
-checker prove more, so an edit that is rejected would be rejected without it. docs/DECISIONS.md explains this and how
-long it takes (The gate's time).
+Many edits share a check (docs/DECISIONS.md, The gate's time). All that the edits do not change is given and not proved
+again: the theorems of the other functions, the lemmas of the crate, and all goals of a changed function except the goal
+that its edit names. This can only let the checker prove more, so an edit that is rejected would be rejected without it.
 
 The goals that have answers are read from the proof files. Each edit has a line with the goals without an answer in
-crates/NAME/mutants/goals.txt, which `--write-lists` writes. An edit without a line takes one further check, which comes
-first and does not search (`#![tactic(none)]`): it tries the answers in the proof files, and lists the goals without an
-answer. If a line is out of date, a goal that it lacks is searched for, and a goal that no longer exists is not given.
+crates/NAME/mutants/goals.txt. An edit without a line takes one further check, which comes first, does not search
+(`#![tactic(none)]`) and lists these goals. If a line is out of date, a goal that it lacks is searched for, and a goal
+that no longer exists is not given.
 
-A new edit gets the whole search that Rattle makes for any function. It takes up to a minute if no proof exists. The
-edit gets its line in goals.txt only if no proof is found. An edit with a line is tried by a search that is cut short
-(SEARCH). `--whole` tries these edits by the whole search too. If the line lacks the edit's own goal, and the goal has
-no answer, the whole search is made in each run: the output names these edits (`long search`).
+A new edit gets the whole search that Rattle makes for any function, which takes up to a minute if no proof exists. It
+gets its line in goals.txt only if no proof is found. An edit with a line is tried by a search that is cut short
+(SEARCH), unless the line lacks the edit's own goal, and the goal has no answer: the output names these edits
+(`long search`).
 
 The goals of the changed functions determine the grade of an edit:
 
@@ -45,26 +42,19 @@ the checker cannot judge its function.
 
 Nothing is written into the repository. The copies lie in a folder of their own in TMPDIR, which is removed at the end,
 also after Ctrl-C. The libraries below a crate have to be built: `rt ci`, `tools/prove.py fv_tool` or `rt check` leave
-them in out/. The checks begin with the proofs of the crate itself that `rt check` has kept there, if it has kept them,
-which is quicker. `rt ci` keeps no proofs.
+them in out/. The checks begin with the proofs of the crate itself that `rt check` has kept there. `rt ci` keeps none.
 
 Without an argument, an edit is tried if STANDARD.md names it, or if it names a goal of a public function's clause or
-result. The others break a private function, or a step within a function. They are only applied to the sources, which
-takes no check. `--every` tries them too: use it before a release. If you name crates or edits, all of these are tried.
+result. The others break a private function, or a step within a function, and are only applied to the sources.
 
 The result of an edit is kept in ${XDG_CACHE_HOME:-~/.cache}/capstanolive-mutants, under the checksum of everything that
 it depends on: the sources of the crate and of the crates below it, the edit, the kit, and the version of the grading
-(GRADING). So a second run tries only new and changed edits. `--anew` tries all edits.
+(GRADING). So a second run tries only new and changed edits.
 
-`--write-goals` writes the line `goal:` of each edit that has no goal, with a goal that was found open. An edit of a
-constant needs the line `goal: MODULE::FUNCTION ` (with a space at the end), which names the function to look at. No
-line is written if the edit removes goals that have answers, because an open goal may then belong to a branch that the
-edit does not change.
-
-`--write-lists` makes the lists anew, tries the edits by the whole search, and writes the lines of the rejected edits
-into goals.txt. Use it after you have added edits, changed functions that have edits, or removed answers of theirs.
-
-`--unnamed` proves nothing. It lists the `ensures` clauses of public functions that no edit's goal names, by crate.
+For `--write-goals`, an edit of a constant needs the line `goal: MODULE::FUNCTION ` (with a space at the end), which
+names the function to look at. No line is written if the edit removes goals that have answers, because an open goal may
+then belong to a branch that the edit does not change. Use `--write-lists` after you have added edits, changed functions
+that have edits, or removed answers of theirs: it writes the lines of the rejected edits.
 
 The last line shows how many edits failed. The exit status is 0 if every edit was rejected at its goal, 1 if an edit
 failed, and 2 if no edit was tried because an argument is wrong or a library is not built."""
@@ -77,6 +67,7 @@ import concurrent.futures
 import json
 import os
 import pathlib
+import re
 import resource
 import shutil
 import signal
@@ -87,11 +78,11 @@ import time
 import kit
 import prove
 from tests.checks import ROOT
-from tests.mutants.crates import Checks, Crate, link_libraries
+from tests.mutants.crates import Checks, Crate, files_of, link_libraries
 from tests.mutants.edits import BAD, CACHE, REJECTED, TEXT, WEAK, Edit, Open, Try, applied, changed, keep, key_of
 from tests.mutants.edits import read_edit, read_lists, write_goal, write_lists
 from tests.mutants.judge import Judge
-from tests.mutants.unnamed import list_unnamed
+from tests.sources.definitions import calls
 
 ROOM = 3_500_000  # the kB of memory that a check is expected to take
 
@@ -108,7 +99,7 @@ def is_of_contract(crate: Crate, edit: Edit, named: str) -> bool:
 def tries_of(crate: Crate, given: argparse.Namespace) -> list[Try]:
     """Returns the edits of a crate to try, with their results if the results are known."""
     found, base, writes = [], crate.checksum(), given.write_goals
-    anew = given.anew or given.whole or given.write_lists
+    anew = given.whole or given.write_lists
     every = not given.crates or crate.name in given.crates
     is_chosen = not given.crates and not given.every and not writes and not given.write_lists
     named = (ROOT / "docs/STANDARD.md").read_text(encoding="utf-8")
@@ -145,13 +136,12 @@ def tries_of(crate: Crate, given: argparse.Namespace) -> list[Try]:
 
 
 def try_crate(crate: Crate, tries: list[Try], given: argparse.Namespace) -> None:
-    """Tries the edits of a crate whose results are not known yet, and prints a line on the crate's edits, if any are
-    chosen."""
+    """Tries the edits of a crate whose results are not known yet, and prints a line on all chosen edits."""
     new, begun = [each for each in tries if not each.grade], time.monotonic()
     if new:
         crate.make()
         Judge(crate, new).run()
-        crate.remove()
+        shutil.rmtree(crate.copy, ignore_errors=True)
     base = crate.checksum()
     for each in new:
         if given.write_goals and not crate.checks.stopped:
@@ -174,8 +164,7 @@ def sweep() -> None:
 
 
 def tell(tries: dict[str, list[Try]], count: int, further: int) -> int:
-    """Prints the results, the number of checks, and how many further edits were only applied. Returns the exit
-    status."""
+    """Prints the results, the number of checks, and how many edits were only applied. Returns the exit status."""
     all_of = [(f"{name}/{each.edit.name}", each) for name, found in tries.items() for each in found]
     lines = [f"long search: {it}: its line in goals.txt lacks {each.edit.goal}" for it, each in all_of if each.is_long]
     lines += [f"weak: {it}: {each.goal}" for it, each in all_of if each.grade == WEAK]
@@ -228,19 +217,50 @@ def run(names: list[str], given: argparse.Namespace, checks: Checks, room: pathl
     return tell(tries, checks.count, sum(it.applied for it in crates))
 
 
+def named_in(crate: str) -> dict[str, set[str]]:
+    """Returns the clauses that the goals of a crate's edits name, by the names of their functions. Each edit of a
+    function counts as naming its only clause, which has no name here."""
+    folder, named = ROOT / "crates" / crate, collections.defaultdict[str, set[str]](set)
+    texts = files_of(folder)
+    for edit in map(read_edit, (it for part in ("mutants", "must-fail") for it in (folder / part).glob("*.edit"))):
+        clause = re.search(r"clause-([\w-]+)$", edit.goal)
+        for owner in [it.path for it in changed(edit, texts) or []] + [edit.of] * bool(edit.of):
+            named[owner.rpartition("::")[2]].add(clause[1] if clause else "")
+    return named
+
+
+def list_unnamed(crates: list[str]) -> int:
+    """Lists the `ensures` clauses of public functions that no edit's goal names. Returns the exit status."""
+    os.chdir(ROOT)
+    every, left = 0, 0
+    for crate in crates:
+        named, count, lacking = named_in(crate), 0, list[str]()
+        for call in calls(crate):
+            clauses, edits = [it.name for it in call.clauses if it.is_ensured], named[call.name]
+            count += len(clauses)
+            place = f"{call.path.partition('/src/')[2]}: {call.owner + '::' if call.owner else ''}{call.name}"
+            lacking += [
+                f"    {place}: {it or '(a clause without a name)'}"
+                for it in clauses
+                if it not in edits and (len(clauses) > 1 or not edits)
+            ]
+        print("\n".join([f"mutants: {crate}: {len(lacking)} of {count} clauses are in no edit's goal", *lacking]))
+        every, left = every + count, left + len(lacking)
+    print(f"mutants: {left} of {every} clauses of public functions are in no edit's goal")
+    return 0
+
+
 def arguments() -> argparse.Namespace:
     """Reads the arguments of the command."""
-    about = "Tries the wrong bodies in crates/NAME/mutants/, many in each check."
-    reader = argparse.ArgumentParser("python3 -m tests.mutants", description=about)
+    shape = argparse.RawDescriptionHelpFormatter
+    reader = argparse.ArgumentParser("python3 -m tests.mutants", description=__doc__, formatter_class=shape)
     reader.add_argument("crates", nargs="*", metavar="CRATE", help="a crate or one edit, CRATE/EDIT (else: all crates)")
     reader.add_argument("--jobs", type=int, default=jobs(), help="how many checks run side by side (now: %(default)s)")
-    reader.add_argument("--every", action="store_true", help="tries also edits of private functions and of inner steps")
-    reader.add_argument("--anew", action="store_true", help="tries also what an earlier run has tried")
+    reader.add_argument("--every", action="store_true", help="tries also edits of private functions and of steps")
     reader.add_argument("--write-goals", action="store_true", help="writes the goal of each edit that has none")
-    reader.add_argument("--write-lists", action="store_true", help="writes goals.txt, by the whole search")
+    reader.add_argument("--write-lists", action="store_true", help="writes goals.txt anew, by the whole search")
     reader.add_argument("--whole", action="store_true", help="tries each edit by the whole search")
-    reader.add_argument("--unnamed", action="store_true", help="lists the clauses that no edit's goal names")
-    reader.add_argument("--logs", type=pathlib.Path, metavar="FOLDER", help="keeps what each check says in this folder")
+    reader.add_argument("--unnamed", action="store_true", help="lists the public clauses that no edit names")
     return reader.parse_args()
 
 
@@ -260,7 +280,7 @@ def main() -> int:
     for number in (signal.SIGTERM, signal.SIGHUP, signal.SIGINT):
         signal.signal(number, lambda number, _: sys.exit(128 + number))
     sweep()
-    checks = Checks(given.logs)
+    checks = Checks()
     room = pathlib.Path(tempfile.mkdtemp(prefix=f"capstanolive-mutants-{os.getpid()}-"))
     try:
         return run(chosen, given, checks, room)

@@ -17,7 +17,7 @@ import typing
 
 from tests.checks import ROOT
 from tests.mutants.edits import FALSE, GRADING, NO_PROOF, TEXT, Open, Try, applied, with_copy
-from tests.mutants.functions import functions, homes, proofs_of, stubbed
+from tests.mutants.functions import functions, proofs_of, stubbed
 from tests.mutants.proofs import answered, answers, assumed, given_lemmas, resting, searched, without
 
 PARTS = ("src", "specs", "proofs")
@@ -56,31 +56,15 @@ class Report:
     moved: set[str] = dataclasses.field(default_factory=set)
     broken: list[tuple[str, int, str]] = dataclasses.field(default_factory=list)
 
-    def has_proved(self, function: str) -> bool:
-        """Returns whether the check reports that a function is proved."""
-        return self.named.get(function, "").split(";")[0] in ("proved", "no holes")
+
+def unit_of(folder: str) -> str:
+    """Returns the function or the cycle that a folder of proofs belongs to."""
+    return folder.removeprefix("proofs/").replace("/", "::")
 
 
-def items(said: str) -> list[str]:
-    """Returns the lines of a check's output, each joined with the lines that continue it."""
-    found: list[str] = []
-    for line in said.split("\n"):
-        if line.startswith("  ") and found:
-            found[-1] += "\n" + line
-        else:
-            found.append(line)
-    return found
-
-
-def unit_of(file: str) -> str:
-    """Returns the function or the cycle that a proof file belongs to."""
-    return os.path.dirname(file.removeprefix("proofs/")).replace("/", "::")
-
-
-def of_answer(file: str, text: str, proof: str) -> list[Open]:
+def of_answer(unit: str, text: str, proof: str) -> list[Open]:
     """Returns the goals that an error in a proof file leaves open. Values at which a tactic fails count as values of
     the goal only if the tactic is the whole answer."""
-    unit = unit_of(file)
     names = re.match(r"error: `([^`]+)`: ?(.*)", text, re.S)
     if not names or GONE.search(text):
         return []
@@ -96,15 +80,16 @@ def of_place(match: re.Match[str], text: str, texts: dict[str, str], report: Rep
     """Adds an item with a place to a report."""
     file, line, said = match[1], int(match[2]) - 1, text[match.start(3) :]
     if file.startswith("proofs/"):
+        unit = unit_of(os.path.dirname(file))
         if said.startswith("error: "):
-            report.opens += of_answer(file, said, texts.get(file, ""))
-            report.moved |= {unit_of(file)} if GONE.search(said) else set()
+            report.opens += of_answer(unit, said, texts.get(file, ""))
+            report.moved |= {unit} if GONE.search(said) else set()
         return
     if said.startswith("error"):
         report.broken.append((file, line, said.split("\n")[0]))
         return
     goal = re.search(r"it is not proved that .*?\(`([^`]+)`\)", said, re.S)
-    after = (it for it in functions(file, texts.get(file, ""), homes(texts)) if it.last >= line)
+    after = (it for it in functions(file, texts) if it.last >= line)
     function = next(after, None)
     if goal and function:
         report.opens.append(Open(function.unit, goal[1], FALSE if VALUES.search(said) else NO_PROOF))
@@ -116,7 +101,7 @@ def report_of(said: str, texts: dict[str, str]) -> Report:
     unknown = {*re.findall(r"has no function `([^`]+)`", said)}
     judged = bool(re.search(r"(?m)^(?:only=\d+ (?:proved|holes)=|logic=)", said))
     report = Report(judged, said, unknown)
-    for text in items(said):
+    for text in re.split(r"\n(?!  )", said):  # lines, each with the lines that continue it
         placed, function = PLACED.match(text), OF_FUNCTION.match(text)
         if placed:
             of_place(placed, text, texts, report)
@@ -128,11 +113,11 @@ def report_of(said: str, texts: dict[str, str]) -> Report:
                 report.waits.setdefault(function[1], set()).update(waits)
             goals = re.search(r"did not prove ((?:(?:, | and )?`[^`]+`)+)", function[2])
             unit = re.search(r"answers in (?:\./)?proofs/(\S+)/\w+\.antt", function[2])
-            owner = unit[1].replace("/", "::") if unit else function[1]
+            owner = unit_of(unit[1]) if unit else function[1]
             report.opens += [Open(owner, it, NO_PROOF) for it in re.findall(r"`([^`]+)`", goals[1] if goals else "")]
         false, untried = OF_FILE.match(text), NOT_TRIED.match(text)
         if false:
-            report.opens.append(Open(false[2].replace("/", "::"), false[1], FALSE))
+            report.opens.append(Open(unit_of(false[2]), false[1], FALSE))
         if untried:
             report.waits.setdefault(untried[1], set())
     return report
@@ -143,7 +128,6 @@ def link(source: pathlib.Path, target: pathlib.Path, every: bool) -> bool:
     into them. Returns whether it was copied."""
 
     def one(old: str, new: str) -> str:
-        """Links or copies a file."""
         try:
             if every or old.endswith(".oantt"):
                 os.link(old, new)
@@ -168,19 +152,14 @@ def files_of(folder: pathlib.Path) -> dict[str, str]:
 
 
 class Checks:
-    """The checks that are running, their number, and the folder for their outputs."""
+    """The checks that are running, and the number of all checks."""
 
-    def __init__(self, logs: pathlib.Path | None) -> None:
-        """Prepares checks, which write their outputs into a folder if one is given."""
+    def __init__(self) -> None:
         self.running: set[subprocess.Popen[str]] = set()
-        self.lock, self.logs = threading.Lock(), logs
-        if logs:
-            logs.mkdir(parents=True, exist_ok=True)
-        self.stopped, self.count = False, 0
+        self.lock, self.stopped, self.count = threading.Lock(), False, 0
 
-    def run(self, words: list[str], folder: pathlib.Path, label: str) -> tuple[int, str]:
-        """Runs one check. Returns its status and its output. The command `timeout` ends the check and all that it
-        started after LIMIT seconds, or when it is ended itself."""
+    def run(self, words: list[str], folder: pathlib.Path) -> tuple[int, str]:
+        """Runs one check for at most LIMIT seconds. Returns its status and its output."""
         how: dict[str, typing.Any] = {"stdin": subprocess.DEVNULL, "stdout": subprocess.PIPE}
         how.update(stderr=subprocess.STDOUT, cwd=folder, text=True, errors="replace")
         with self.lock:
@@ -189,12 +168,9 @@ class Checks:
             run = subprocess.Popen(["timeout", "--signal=KILL", str(LIMIT), *words], **how)
             self.running.add(run)
             self.count += 1
-            number = self.count
         said, _ = run.communicate()
         with self.lock:
             self.running.discard(run)
-        if self.logs:
-            (self.logs / f"{number:03}-{label}.log").write_text(said)
         return run.returncode, said
 
     def stop(self) -> None:
@@ -215,8 +191,8 @@ class Crate:
         self.rattle, self.room = str(rtlib.RATTLE), room
         self.texts, self.there = files_of(self.folder), dict[str, str]()
         self.seed = self.copy / "kept"
-        sources, types = [it for it in self.texts if it.startswith("src/")], homes(self.texts)
-        self.paths = {it.path: it for file in sources for it in functions(file, self.texts[file], types)}
+        sources = [it for it in self.texts if it.startswith("src/")]
+        self.paths = {it.path: it for file in sources for it in functions(file, self.texts)}
         self.lemmas = given_lemmas(self.texts)
         # The number of edits that are only applied.
         self.applied = 0
@@ -256,10 +232,6 @@ class Crate:
                 path.parent.mkdir(parents=True, exist_ok=True)
                 path.write_text(text, encoding="utf-8")
         self.there = texts
-
-    def remove(self) -> None:
-        """Removes the copy."""
-        shutil.rmtree(self.copy, ignore_errors=True)
 
     def together(self, group: list[Try]) -> dict[str, str] | None:
         """Returns the texts that the changes of a group of edits make, or nothing if they do not fit together."""
@@ -324,9 +296,9 @@ class Crate:
         only = sorted({owner.path for each in group for owner in each.owners})
         words = [self.rattle, "check", *self.of_kit.words(["--jobs", "1"], keeps=False), "--allow-holes"]
         words += ["--incremental", str(self.seed), *(it for path in only for it in ("--only", path))]
-        status, said = self.checks.run(words, self.copy, self.name)
+        status, said = self.checks.run(words, self.copy)
         if status in (-signal.SIGKILL, 128 + signal.SIGKILL) and not self.checks.stopped:
-            status, said = self.checks.run(words, self.copy, self.name)
+            status, said = self.checks.run(words, self.copy)
         report = report_of(said, texts)
         # The checker does not wait for a function whose theorem is given.
         for path, waits in [*report.waits.items()]:

@@ -12,7 +12,7 @@ import pathlib
 import re
 import tempfile
 
-from tests.mutants.functions import IMPORT, Function, around, functions, homes, proofs_of
+from tests.mutants.functions import IMPORT, Function, around, functions, proofs_of
 
 # The version of the grading. Raise it if a change of these modules may give an edit another grade: results of other
 # versions in CACHE are not used.
@@ -77,8 +77,7 @@ def applied(changes: tuple[Change, ...], texts: dict[str, str]) -> dict[str, str
 
 
 def changed(edit: Edit, texts: dict[str, str]) -> list[Function] | None:
-    """Returns the functions that an edit changes, or nothing if the edit changes text outside of functions and
-    imports."""
+    """Returns the functions that an edit changes, or nothing if it changes more than functions and imports."""
     found: dict[str, Function] = {}
     now = texts
     for change in edit.changes:
@@ -93,16 +92,11 @@ def changed(edit: Edit, texts: dict[str, str]) -> list[Function] | None:
     return list(found.values()) or None
 
 
-def copy_of(function: Function, suffix: str) -> Function:
-    """Returns the copy of a function. Its name is the function's name and a suffix."""
-    return dataclasses.replace(function, path=function.path + suffix, unit=function.unit + suffix)
-
-
 def with_copy(
     texts: dict[str, str], was: dict[str, str], function: Function, suffix: str, edit: Edit
 ) -> dict[str, str]:
-    """Returns texts in which a changed copy follows a function. The copy's name is the function's name and a suffix,
-    and its proof is copied too. The original function stays as it was, and imports are changed in place."""
+    """Returns texts in which a changed copy follows a function, also with a copy of its proof. The copy's name ends
+    with a suffix. The original function stays as it was, and imports are changed in place."""
     lines, name = was[function.file].split("\n"), function.path.rpartition("::")[2]
     body, found = "\n".join(lines[function.head : function.last + 1]), dict(texts)
     for change in edit.changes:
@@ -111,9 +105,8 @@ def with_copy(
         else:
             found[change.file] = found[change.file].replace(change.old, change.new)
     body = re.sub(rf"\bfn {name}\b", f"fn {name}{suffix}", body, count=1)
-    text = found[function.file]
-    here = next(it for it in functions(function.file, text, homes(was)) if it.path == function.path)
-    lines = text.split("\n")
+    here = next(it for it in functions(function.file, found) if it.path == function.path)
+    lines = found[function.file].split("\n")
     found[function.file] = "\n".join([*lines[: here.last + 1], "", body, *lines[here.last + 1 :]])
     folder = proofs_of(function.unit, "").rstrip("/")
     module = re.compile(rf"(?<=\.proofs\.){re.escape(function.unit.replace('::', '.'))}(?![\w-])")
@@ -163,7 +156,8 @@ class Try:
         """Lets the edit change a copy of its function, if the function may be copied."""
         if len(self.owners) == 1 and self.owners[0].is_single and not self.alone:
             self.of, self.suffix = self.owners[0], f"_edit{number}"
-            self.owners = [copy_of(self.of, self.suffix)]
+            copy = {"path": self.of.path + self.suffix, "unit": self.of.unit + self.suffix}
+            self.owners = [dataclasses.replace(self.of, **copy)]
 
     @property
     def wanted(self) -> str:
@@ -171,13 +165,8 @@ class Try:
         return self.left.goal if self.left else self.edit.goal
 
     def is_wanted(self, goal: str) -> bool:
-        """Returns whether a goal has to stay open. If the answer of that goal is left out, the goal may be open in
-        parts."""
+        """Returns whether a goal has to stay open. It may be open in parts if its answer is left out."""
         return goal == self.wanted or bool(self.left) and goal.startswith(f"{self.wanted}-")
-
-    def answers_of(self, unit: str, texts: dict[str, str]) -> str:
-        """Returns the crate's proof file with the answers of a function that the edit changes."""
-        return texts.get(proofs_of(unit.removesuffix(self.suffix)), "")
 
     def ends(self, grade: str, said: str = "", goal: str = "") -> None:
         """Notes the result of the edit."""
@@ -206,8 +195,7 @@ def key_of(base: str, path: pathlib.Path) -> str:
 
 
 def keep(each: Try, base: str) -> None:
-    """Keeps the result of an edit, if the edit was rejected and nothing has changed since. (--write-goals may have
-    written a line of the edit.)"""
+    """Keeps the result of a rejected edit, unless --write-goals has written a line of the edit since."""
     if each.grade in REJECTED and base == each.base:
         CACHE.mkdir(parents=True, exist_ok=True)
         with tempfile.NamedTemporaryFile("w", dir=CACHE, prefix="new-", delete=False) as file:
@@ -216,8 +204,7 @@ def keep(each: Try, base: str) -> None:
 
 
 def write_goal(each: Try) -> None:
-    """Writes the line `goal:` of an edit, with the goal that was found open, unless this goal may belong to a branch
-    that the edit does not change."""
+    """Writes the line `goal:` of an edit, unless the open goal may belong to a branch that does not change."""
     if each.grade not in REJECTED or each.edit.goal:
         return
     if each.moved and each.grade != FALSE:

@@ -49,14 +49,9 @@ def holder_of(header: str) -> str:
     Vec<u8>`, and `WordFaultFromIoError` of `impl From<io::Error> for WordFault`. The name contains no lifetimes and no
     parameters of the `impl`."""
     bare = re.split(r"\bwhere\b|\{", header.replace("->", ""))[0]
-    depth, end = 0, 0
-    for at, sign in enumerate(bare if re.match(r"(?:pub )?impl<", bare) else ""):
-        depth += (sign == "<") - (sign == ">")
-        if sign == ">" and not depth:
-            end = at + 1
-            break
-    parameters = {*re.findall(r"(?:<|, )(?:const )?(\w+)\b", bare[:end])}
-    rest = re.sub(r"'\w+|\b(?:pub|impl|trait)\b", "", bare[end:])
+    _, begin, rest = re.split(r"^((?:pub )?impl<(?:[^<>]|<(?:[^<>]|<[^<>]*>)*>)*>|)", bare, maxsplit=1)
+    parameters = {*re.findall(r"(?:<|, )(?:const )?(\w+)\b", begin)}
+    rest = re.sub(r"'\w+|\b(?:pub|impl|trait)\b", "", rest)
     trait, _, kind = re.split(r": ", rest)[0].rpartition(" for ")
     # The path of the type or of the trait is left out. A path among its parameters stays.
     parts = [re.sub(r"^\s*(?:\w+::)+", "", it) for it in (kind, trait)]
@@ -93,16 +88,15 @@ def extent(lines: list[str], first: int, indent: str, in_trait: bool) -> tuple[i
 
 
 def calls_itself(name: str, body: list[str], in_type: bool) -> bool:
-    """Returns whether a body calls its own function. The checker proves a function that calls itself as a cycle, even
-    if it has no attribute."""
+    """Returns whether a body calls its own function, which is then proved as a cycle."""
     before = r"(?:(?<![\w.:])Self::|(?<![\w.])self\.)" if in_type else r"(?<![\w.:])"
     return bool(re.search(rf"{before}{name}\(", "\n".join(line.partition("//")[0] for line in body)))
 
 
-def functions(file: str, text: str, types: dict[str, list[str]]) -> list[Function]:
-    """Returns the functions of a source that have bodies, in their order."""
-    lines, found, holder, cycle, in_trait, of_trait = text.split("\n"), [], "", "", False, False
-    parts = module_of(file)
+def functions(file: str, texts: dict[str, str]) -> list[Function]:
+    """Returns the functions of a crate's source that have bodies, in their order."""
+    lines, found, holder, cycle, in_trait, of_trait = texts.get(file, "").split("\n"), [], "", "", False, False
+    parts, types = module_of(file), homes(texts)
     for number, line in enumerate(lines):
         begins, is_cycle, holds = FUNCTION.match(line), CYCLE.match(line), HOLDER.match(line)
         if holds:
@@ -130,9 +124,8 @@ def functions(file: str, text: str, types: dict[str, list[str]]) -> list[Functio
 
 
 def around(file: str, texts: dict[str, str], line: int) -> Function | None:
-    """Returns the function that contains a line of a source. Attributes and comments above a function do not belong to
-    it."""
-    return next((it for it in functions(file, texts.get(file, ""), homes(texts)) if it.first <= line <= it.last), None)
+    """Returns the function that contains a line of a source, without the attributes and comments above a function."""
+    return next((it for it in functions(file, texts) if it.first <= line <= it.last), None)
 
 
 def stubbed(texts: dict[str, str], units: set[str]) -> dict[str, str]:
@@ -142,7 +135,7 @@ def stubbed(texts: dict[str, str], units: set[str]) -> dict[str, str]:
     found = dict(texts)
     for file in [it for it in texts if it.startswith("src/")]:
         lines, text, at = texts[file].split("\n"), list[str](), 0
-        for it in functions(file, texts[file], homes(texts)):
+        for it in functions(file, texts):
             if it.unit in units and " const fn " not in f" {lines[it.first]}" and it.body < it.last:
                 text += [*lines[at : it.head], *(line for line in lines[it.head : it.first] if not CYCLE.match(line))]
                 text += [*lines[it.first : it.body + 1], f"{indent_of(lines[it.first])}    loop {{}}"]

@@ -7,8 +7,9 @@ import collections
 
 from tests.mutants.crates import Crate, Report
 from tests.mutants.edits import BAD, FALSE, NO_PROOF, OTHER, PROVED, TEXT, WEAK, Open, Try
-from tests.mutants.functions import Function, around
+from tests.mutants.functions import Function, around, proofs_of
 from tests.mutants.proofs import answers
+from tests.sources.definitions import reached
 
 MOST = 96  # the edits of a check
 
@@ -69,9 +70,9 @@ class Judge:
                 self.judge(each, group, report)
             return
         for file, line, said in report.broken:
-            found = self.edit_at(group, file, line)
-            if found:
-                found.ends(BAD, said)
+            here = around(file, self.crate.there, line)
+            for each in [it for it in group if here and here.path in {owner.path for owner in it.owners}][:1]:
+                each.ends(BAD, said)
         for each in group:
             if any(owner.path in report.unknown for owner in each.owners):
                 each.ends(BAD, f"the checker does not know {' '.join(sorted(report.unknown))}")
@@ -85,11 +86,6 @@ class Judge:
         else:
             self.try_group(rest[: len(rest) // 2])
             self.try_group(rest[len(rest) // 2 :])
-
-    def edit_at(self, group: list[Try], file: str, line: int) -> Try | None:
-        """Returns the edit of a group that changes the function at this line of the changed source."""
-        here = around(file, self.crate.there, line)
-        return next((each for each in group if here and here.path in {owner.path for owner in each.owners}), None)
 
     def judge(self, each: Try, group: list[Try], report: Report) -> None:
         """Grades an edit by the goals of its own functions, or leaves it for a later check."""
@@ -129,23 +125,21 @@ class Judge:
             each.ends(found.grade, goal=found.goal)
 
     def ends_proved(self, each: Try, report: Report) -> None:
-        """Notes that an edit is proved, if the check reports this for each function that the edit changes. A check has
-        not judged a function about which it reports nothing, for example because the borrow checker does not cover
-        it."""
-        silent = [owner.path for owner in each.owners if not report.has_proved(owner.path)]
-        if silent:
-            said = report.named.get(silent[0], "the check says nothing of it")
-            each.ends(BAD, f"the checker does not judge {silent[0]}: {said[:200]}")
-        else:
-            each.ends(PROVED, f"{each.left.goal} is proved without its answer" if each.left else "")
+        """Notes that an edit is proved, if the check reports this for each function that the edit changes. (The borrow
+        checker, for example, may not cover a function.)"""
+        for owner in each.owners:
+            said = report.named.get(owner.path, "the check says nothing of it")
+            if said.split(";")[0] not in ("proved", "no holes"):
+                each.ends(BAD, f"the checker does not judge {owner.path}: {said[:200]}")
+                return
+        each.ends(PROVED, f"{each.left.goal} is proved without its answer" if each.left else "")
 
     def found(self, each: Try, opens: list[Open]) -> Open | None:
         """Returns the open goal that an edit names, or any open goal if the edit names no goal."""
         return self.chosen([it for it in opens if each.is_wanted(it.goal)] if each.wanted else opens)
 
     def next(self, each: Try, opens: list[Open]) -> Open | None:
-        """Returns the next goal that an edit without a goal may name, if the tried goal is proved without its
-        answer."""
+        """Returns the next goal that an edit without a goal may name, if the tried goal needs no answer."""
         if not each.left or each.edit.goal:
             return None
         each.passed.add(each.left.goal)
@@ -159,8 +153,7 @@ class Judge:
         return {it.path for it in [*self.crate.paths.values(), *each.owners] if it.unit in units}
 
     def is_own(self, goal: Open, owner: Function) -> bool:
-        """Returns whether a goal belongs to a function. In a cycle of several functions, the goal's name begins with
-        the function."""
+        """Returns whether a goal belongs to a function. In a cycle of several, its name begins with the function."""
         several = sum(it.unit == owner.unit for it in self.crate.paths.values()) > 1
         own = owner.path.rpartition("::")[2]
         return is_of(goal.unit, owner) and (not several or goal.goal.startswith(f"{own}-"))
@@ -169,7 +162,6 @@ class Judge:
         """Returns the goal with the best grade. Among the goals of this grade, goals of clauses come first."""
 
         def rank(goal: Open) -> tuple[int, bool, bool]:
-            """Returns the rank of a goal. The goal with the lowest rank is the best."""
             grade = (FALSE, NO_PROOF, TEXT).index(goal.grade)
             return grade, not goal.goal.startswith("returns"), "-clause-" not in goal.goal
 
@@ -177,7 +169,7 @@ class Judge:
 
     def again(self, each: Try, found: Open) -> None:
         """Arranges that an edit is tried without the answer that no longer fits."""
-        if found.goal not in answers(each.answers_of(found.unit, self.crate.texts)):
+        if found.goal not in answers(self.crate.texts.get(proofs_of(found.unit.removesuffix(each.suffix)), "")):
             each.ends(OTHER, f"{found.goal} has no answer of its own to leave out")
             return
         each.left = found
@@ -186,14 +178,9 @@ class Judge:
     def waits(self, each: Try, group: list[Try], report: Report) -> bool:
         """Returns whether a goal of the edit may be untried, because its function calls another changed function."""
         begins = self.begins(each)
-        reached = {*begins}
-        while True:
-            more = {it for path in reached for it in report.waits.get(path, set())} - reached
-            if not more:
-                break
-            reached |= more
+        called = reached(begins, lambda path: report.waits.get(path, set()))
         rest = [it for it in group if it is not each]
-        others = {it.edit.name for it in rest if any(owner.path in reached for owner in it.owners)}
+        others = {it.edit.name for it in rest if any(owner.path in called for owner in it.owners)}
         silent = not any(is_of(path, owner) for path in report.named for owner in each.owners)
         is_free = not silent and not any(path in report.waits for path in begins)
         if is_free or each.alone or len(group) == 1:

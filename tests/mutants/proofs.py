@@ -4,9 +4,11 @@
 from __future__ import annotations
 
 import dataclasses
+import itertools
 import re
 
 from tests.mutants.functions import indent_of
+from tests.sources.definitions import reached
 
 # The line that begins a declaration in a proof file, and the other lines that begin a part of a proof file.
 DECLARES = re.compile(r"(?:pub )?(\S+) : ")
@@ -23,15 +25,10 @@ RULES = re.compile(r"(?m)^use Rattle\.std\.proofs\.Common\.\{(?:[^}]*, )?rules[,
 
 def answers(text: str) -> dict[str, tuple[int, int]]:
     """Returns the declarations of a proof file: the lines of each, from its first up to the next declaration."""
-    lines, begins, ends = text.split("\n"), {}, []
-    for number, line in enumerate(lines):
-        declares = DECLARES.match(line)
-        if declares and not APART.match(line):
-            begins[declares[1]] = number
-            ends.append(number)
-        elif APART.match(line):
-            ends.append(number)
-    return {name: (at, min((it for it in ends if it > at), default=len(lines))) for name, at in begins.items()}
+    lines = text.split("\n")
+    matches = ((at, APART.match(it), DECLARES.match(it)) for at, it in enumerate(lines))
+    begins = [(at, it[1] if it and not apart else "") for at, apart, it in matches if it or apart]
+    return {name: (at, end) for (at, name), (end, _) in itertools.pairwise([*begins, (len(lines), "")]) if name}
 
 
 def without(text: str, name: str) -> str | None:
@@ -84,13 +81,11 @@ def resting(text: str, name: str) -> set[str]:
     """Returns one declaration of a proof file, and the declarations that depend on it."""
     lines = text.split("\n")
     bodies = {it: "\n".join(lines[at:end]) for it, (at, end) in answers(text).items()}
-    found = {name}
-    while True:
-        names = "|".join(map(re.escape, found))
-        more = {it for it, body in bodies.items() if re.search(rf"(?<![\w.-])(?:{names})(?![\w-])", body)}
-        if more <= found:
-            return found
-        found |= more
+
+    def after(other: str) -> list[str]:
+        return [it for it, body in bodies.items() if re.search(rf"(?<![\w.-]){re.escape(other)}(?![\w-])", body)]
+
+    return reached([name], after)
 
 
 @dataclasses.dataclass(frozen=True)
@@ -158,8 +153,7 @@ def lemmas(text: str) -> list[Lemma]:
 
 
 def words_of_types(texts: dict[str, str]) -> set[str]:
-    """Returns the words of proof files that stand outside of proofs and imports. They include each definition that the
-    type of a lemma or of a goal names."""
+    """Returns the words of proof files outside of proofs and imports, with each definition that a type names."""
     found: set[str] = set()
     for text in texts.values():
         lines = text.split("\n")

@@ -39,26 +39,13 @@ INPUTS = {
 WANT = ["fault 24 at 0"]
 SIDES, HOBS = [*WANT, "first fault 24 at 0", "second fault 24 at 0"], [*WANT, "hob fault 6 at 0"]
 NAME = "0a0a0a0a-0a0a-0a0a-0a0a-0a0a0a0a0a0a"
+EXTRACT = f"extract --name {NAME}"
+WHOLE = ("normalise", "normalise --all", "list", "list --sums", "cells", "unfix", "scan", "check", EXTRACT)
 RUNS = [
-    (WANT, "normalise volume"),
-    (WANT, "normalise --all volume"),
-    (WANT, "list volume"),
-    (WANT, "list --sums volume"),
-    (WANT, "cells volume"),
-    (WANT, "unfix volume"),
-    (WANT, "scan volume"),
-    (WANT, "scan both"),
-    (WANT, "check volume"),
-    (WANT, "check depex"),
-    (WANT, "check --all both"),
-    (WANT, f"extract --name {NAME} --section 19 volume"),
-    (WANT, f"extract --name {NAME} volume"),
-    (SIDES, "compare volume depex"),
-    (SIDES, "compare volume volume"),
-    (SIDES, "compare first second"),
-    (SIDES, "compare first first"),
-    (HOBS, "hobs list"),
-    (HOBS, "hobs --image volume --base 16711680 list"),
+    *((WANT, f"{command} volume") for command in (*WHOLE, f"{EXTRACT} --section 19")),
+    *((WANT, command) for command in ("scan both", "check depex", "check --all both")),
+    *((SIDES, f"compare {names}") for names in ("volume depex", "volume volume", "first second", "first first")),
+    *((HOBS, f"hobs {words}list") for words in ("", "--image volume --base 16711680 ")),
 ]
 # The crates of tests that have tests of failed allocations, which are in files memory.rt, and their built tests.
 FILES_OF_TESTS = sorted(ROOT.glob("crates/*/src/*/memory.rt"))
@@ -126,15 +113,12 @@ class Commands(MemoryCase):
                 self.assertIn((done.status, done.output), [(2, f"{it}\n") for it in lines], f"allocation {at} refused")
             self.assertGreater(at, 1, "no allocation was refused")
 
-    def test_bytes(self) -> None:
+    def test_runs(self) -> None:
         for lines, command in RUNS:
-            self.refuse_each(lines, *command.split())
+            name, *words = command.split()
+            self.refuse_each(lines, name, *words)
+            self.refuse_each(lines, name, "--hex", *(f"{it}.hex" if it in INPUTS else it for it in words))
         self.refuse_each(WANT, "normalise", "no-such-file")
-
-    def test_text(self) -> None:
-        for lines, command in RUNS:
-            name, *words = (f"{it}.hex" if it in INPUTS and at else it for at, it in enumerate(command.split()))
-            self.refuse_each(lines, name, "--hex", *words)
 
     def test_messages(self) -> None:
         """A message follows the line. Each allocation that is refused before the line is reported in its place. The

@@ -1,14 +1,14 @@
 # SPDX-License-Identifier: BSD-2-Clause-Patent
-"""Runs each row of crates/fv_run_tests/rows over the program. Each row is a test: `list.12` is the 12th row of list.rows,
-and `two-sections` is the volume of this name.
+"""Runs each row of crates/fv_run_tests/rows over the program. Each row is a test: `list.12` is the 12th row of
+list.rows, and `two-sections` is the volume of this name.
 
 A row is run over bytes and over hexadecimal text, which --hex reads. It is run only over text if an input is written as
 text. The first input is a file, and is then also given on standard input if the command can read it there. The status
 and all of standard output have to be as the row says, and standard error has to be empty. Each expression is put into a
 volume, which `check` reads. Some inputs are read only from standard input: volumes with expressions, the rows of
 `parts`, `lengths`, `bodies`, `read` and `streams`, and the full volumes. The rows of [flash images], [rejected images],
-[checked images], [unfit], [extents] and [values] are for tests/python/test_rows.py, and the rows of [data] for
-tests/python/test_trees.py, which need the library.
+[checked images], [unfit], [extents], [values] and [data] are for tests/python/test_rows.py, which needs the library. It
+also makes these runs by calls of the library.
 
 The number of rows has to be ROWS, so that no row gets lost unnoticed."""
 
@@ -38,11 +38,12 @@ FILES = {path.stem: rows.tables(path.stem) for path in sorted(rows.FOLDER.glob("
 RUNS = ["normalise", "extract", "scan", "hobs", "list", "sums", "check", "cells", "unfix", "compare", "placed", "text"]
 # The files of the crate's tests that have rows.
 TESTS = ["volumes", "command/other_runs", "command/opened_runs"]
-# The commands that have another name in the rows than in the program.
-COMMANDS = {"normalise-all": ["normalise", "--all"], "check-all": ["check", "--all"], "list-sums": ["list", "--sums"]}
 NAME = "0a0a0a0a-0a0a-0a0a-0a0a-0a0a0a0a0a0a"
-# A function that returns the part of an output that is compared.
+# A function that returns the part of an output that is compared: the last line, or the offsets of the files in the
+# lines of `cells`.
 Look = Callable[[bytes], object]
+LAST_LINE: Look = re.compile(rb"[^\n]*\n\Z").findall
+FILE_OFFSETS: Look = re.compile(rb"(?m)^file at (\d+) ").findall
 
 
 @dataclass(frozen=True)
@@ -97,10 +98,10 @@ def options(name: str, words: list[str]) -> list[str]:
 
 
 def arguments(command: str, is_hex: bool, first: str | None) -> list[str]:
-    """Returns the arguments that a command means. Its first input is the file `first`, or standard input if there is
-    none. Its second input is the file `second`."""
+    """Returns the arguments that a command means: `check-all` is `check --all`. Its first input is the file `first`, or
+    standard input if there is none. Its second input is the file `second`."""
     name, *words = command.split()
-    found = [*COMMANDS.get(name, [name]), *options(name, words), *["--hex"] * is_hex]
+    found = [*name.replace("-", " --").split(), *options(name, words), *["--hex"] * is_hex]
     return found + [it for it in (first, "second" if name == "compare" else None) if it]
 
 
@@ -121,23 +122,13 @@ def runs_of(row: str, look: Look = bytes) -> Iterator[Run]:
             yield Run(label, arguments(command, is_hex, None), int(status), output, given, {"second": other}, look)
 
 
-def last_line(output: bytes) -> list[bytes]:
-    """Returns the last line of an output."""
-    return output.splitlines()[-1:]
-
-
-def file_offsets(output: bytes) -> list[bytes]:
-    """Returns the offsets of the files in the lines of `cells`."""
-    return re.findall(rb"(?m)^file at (\d+) ", output)
-
-
 def image_runs(name: str, image: str) -> Iterator[Run]:
     """Returns runs in which `normalise` writes the image of a volume, and `check` reports whether a volume is its own
     image."""
     yield from runs_of(f"normalise: {name} -> 0 ={image}")
-    yield from runs_of(f"check: {image} -> 0 canonical|", last_line)
+    yield from runs_of(f"check: {image} -> 0 canonical|", LAST_LINE)
     if image != name:
-        yield from runs_of(f"check: {name} -> 1 not canonical|", last_line)
+        yield from runs_of(f"check: {name} -> 1 not canonical|", LAST_LINE)
 
 
 def offset_runs(row: str) -> Iterator[Run]:
@@ -145,7 +136,7 @@ def offset_runs(row: str) -> Iterator[Run]:
     name, image, offsets = rows.parts(row)
     yield from runs_of(f"normalise: {name} -> 0 ={image}")
     lines = "".join(f"file at {it} |" for it in offsets.split())
-    yield from runs_of(f"cells: {image} -> 0 {lines}", file_offsets)
+    yield from runs_of(f"cells: {image} -> 0 {lines}", FILE_OFFSETS)
 
 
 def full_runs() -> Iterator[Run]:

@@ -6,6 +6,7 @@ are the same in all three cases, and if standard error takes nothing."""
 
 from __future__ import annotations
 
+import contextlib
 import os
 import pty
 import re
@@ -100,15 +101,6 @@ class Streams(RoomCase):
         Path("\udcff/program").symlink_to(PROGRAM)
         self.ends(0, LISTED, r"""$'\xff/program' list --hex "$V" """)
 
-    def test_wrong_arguments_and_files(self) -> None:
-        """Standard error names what is wrong. The first input is read before the second."""
-        self.ends(3, "wrong words", '"$P" lists', f"fvtool: unknown command 'lists' {HELP}")
-        self.ends(3, "wrong words", r'''"$P" list $'\xff' ''', "fvtool: argument 2 is not UTF-8")
-        missing = "fvtool: no-such-file: no such file"
-        self.ends(2, FAULT, '"$P" normalise no-such-file', missing)
-        both = f"{missing}\nfvtool: nor-this: no such file"
-        self.ends(2, f"first {FAULT}", '"$P" compare no-such-file nor-this', both)
-
     def test_file_that_may_not_be_read(self) -> None:
         """Root may read any file, so another user runs a copy of the program."""
         shutil.copy(PROGRAM, "copy")
@@ -200,19 +192,6 @@ def wrong_cases() -> list[Case]:
     return found
 
 
-@dataclass(frozen=True)
-class Rejection:
-    """An input that is rejected: the words of the rows that spell it, the command, in which FILE is the input and
-    VOLUME a volume as text, the fault, and what to do next. The meaning of the fault is in FAULTS, unless it is
-    given."""
-
-    spelling: str
-    command: str
-    fault: str
-    step: str
-    meaning: str = ""
-
-
 SOURCE = "compare the input with its source"
 OFFSET = "the offset shows where: man fvtool lists the faults"
 LOOK = "fvtool scan FILE finds volumes, fv-unpack --list FILE looks further"
@@ -223,27 +202,29 @@ NO_IMAGE = "fvtool list and fvtool compare need no image"
 LONG_HEADER = "00*16 78e58c8c3d8a1c4f9935896185c32dd3 80 00*7 5f465648fffe0400 4008cef500000002 0100000080000000 00*8"
 LENGTH = "the length in the header of a volume is wrong"
 TWO, FOLLOW = "two-sections two-sections", "bytes follow the volume"
-REJECTIONS = [
-    Rejection("616263", "list FILE", "fault 1 at 3", "is the file whole? fvtool scan FILE finds volumes"),
-    Rejection("ff*64", "check FILE", "fault 2 at 40", LOOK),
-    Rejection("head-file-system", "list FILE", "fault 3 at 16", LOOK),
-    Rejection(f"H256 0a*16 b9aa0b009c0000f884000017 {LONG_HEADER} ff*84", "list FILE", "fault 1 at 228", SOURCE),
-    Rejection("head-sum-off-by-one", "list FILE", "fault 6 at 0", SOURCE),
-    Rejection("head-length-over-256m", "list FILE", "fault 8 at 32", SOURCE, LENGTH),
-    Rejection(TWO, "check FILE", "fault 8 at 128", "try --at 0, or --all", FOLLOW),
-    Rejection(TWO, "normalise FILE", "fault 8 at 128", "try --at 0, or --all", FOLLOW),
-    Rejection(TWO, "unfix FILE", "fault 8 at 128", "try --at 0", FOLLOW),
-    Rejection(TWO, "compare --hex FILE VOLUME", "first fault 8 at 128", "try --at 0", FOLLOW),
-    Rejection(TWO, "compare --hex VOLUME FILE", "second fault 8 at 128", "try --other-at 0", FOLLOW),
-    Rejection("file-header-sum", "list FILE", "fault 11 at 72", OFFSET),
-    Rejection("file-fixed", "list FILE", "fault 15 at 91", UNFIX),
-    Rejection("file-fixed", "normalise --all FILE", "fault 15 at 91", GOES_ON),
-    Rejection("nested-fixed-file", "list FILE", "fault 15 at 191", "fv-same, fv-unpack and fv-map read such volumes"),
-    Rejection("same-name-twice", "list FILE", "fault 17 at 96", "report it to whoever built the volume"),
-    Rejection("section-size-too-small", "list FILE", "fault 19 at 96", OFFSET),
-    Rejection("nine-groups", "list FILE", "fault 21 at 128", "treat the input as hostile"),
-    Rejection("ext-header-without-room", "normalise FILE", "fault 22 at 0", NO_IMAGE),
-    Rejection("top-misaligned", "normalise FILE", "fault 23 at 0", NO_IMAGE),
+# Inputs that are rejected: the words of the rows that spell each, the command, in which FILE is the input and VOLUME a
+# volume as text, the fault, and what to do next. The meaning of the fault is in FAULTS, unless it is given.
+REJECTIONS: list[tuple[str, ...]] = [
+    ("616263", "list FILE", "fault 1 at 3", "is the file whole? fvtool scan FILE finds volumes"),
+    ("ff*64", "check FILE", "fault 2 at 40", LOOK),
+    ("head-file-system", "list FILE", "fault 3 at 16", LOOK),
+    (f"H256 0a*16 b9aa0b009c0000f884000017 {LONG_HEADER} ff*84", "list FILE", "fault 1 at 228", SOURCE),
+    ("head-sum-off-by-one", "list FILE", "fault 6 at 0", SOURCE),
+    ("head-length-over-256m", "list FILE", "fault 8 at 32", SOURCE, LENGTH),
+    (TWO, "check FILE", "fault 8 at 128", "try --at 0, or --all", FOLLOW),
+    (TWO, "normalise FILE", "fault 8 at 128", "try --at 0, or --all", FOLLOW),
+    (TWO, "unfix FILE", "fault 8 at 128", "try --at 0", FOLLOW),
+    (TWO, "compare --hex FILE VOLUME", "first fault 8 at 128", "try --at 0", FOLLOW),
+    (TWO, "compare --hex VOLUME FILE", "second fault 8 at 128", "try --other-at 0", FOLLOW),
+    ("file-header-sum", "list FILE", "fault 11 at 72", OFFSET),
+    ("file-fixed", "list FILE", "fault 15 at 91", UNFIX),
+    ("file-fixed", "normalise --all FILE", "fault 15 at 91", GOES_ON),
+    ("nested-fixed-file", "list FILE", "fault 15 at 191", "fv-same, fv-unpack and fv-map read such volumes"),
+    ("same-name-twice", "list FILE", "fault 17 at 96", "report it to whoever built the volume"),
+    ("section-size-too-small", "list FILE", "fault 19 at 96", OFFSET),
+    ("nine-groups", "list FILE", "fault 21 at 128", "treat the input as hostile"),
+    ("ext-header-without-room", "normalise FILE", "fault 22 at 0", NO_IMAGE),
+    ("top-misaligned", "normalise FILE", "fault 23 at 0", NO_IMAGE),
 ]
 
 
@@ -252,12 +233,12 @@ def rejection_cases() -> list[Case]:
     table = read(ROOT / "docs/FAULTS.md").partition("## What each fault means for you")[2].partition("\n## ")[0]
     meanings = dict(re.findall(r"(?m)^\| (\d+) \| (.*?) \|", table))
     found: list[Case] = []
-    for number, it in enumerate(REJECTIONS):
-        data = rows.spelled(it.spelling)
-        Path(str(number)).write_bytes(data.hex().encode() if "--hex" in it.command else data)
-        words = [{"FILE": str(number), "VOLUME": VOLUME}.get(word, word) for word in it.command.split()]
-        sentence = it.meaning or meanings[it.fault.split()[-3]]
-        found.append(Case(words, 2, f"{it.fault}\n", meaning(sentence, it.step, str(number))))
+    for number, (spelling, command, fault, step, *given) in enumerate(REJECTIONS):
+        data = rows.spelled(spelling)
+        Path(str(number)).write_bytes(data.hex().encode() if "--hex" in command else data)
+        words = [{"FILE": str(number), "VOLUME": VOLUME}.get(word, word) for word in command.split()]
+        (sentence,) = given or [meanings[fault.split()[-3]]]
+        found.append(Case(words, 2, f"{fault}\n", meaning(sentence, step, str(number))))
     return found
 
 
@@ -315,14 +296,9 @@ def new_terminal() -> tuple[int, int]:
 def read_until(ours: int, ends: bytes | None) -> bytes:
     """Returns the text that a terminal shows, until its other end is closed or a given text has appeared."""
     shown = b""
-    while ends is None or not shown.endswith(ends):
-        try:
-            part = os.read(ours, 4096)
-        except OSError:  # the other end is closed
-            return shown
-        if not part:
-            return shown
-        shown += part
+    with contextlib.suppress(OSError):  # the other end is closed
+        while ends is None or not shown.endswith(ends):
+            shown += os.read(ours, 4096)
     return shown
 
 
@@ -369,9 +345,9 @@ class Terminal(RoomCase):
         Path("short").write_bytes(b"abc")
         Path("fixed").write_bytes(rows.spelled("file-fixed"))
 
-    def try_cases(self, cases: list[Case]) -> None:
-        """Checks the results of runs whose standard error is a terminal, a pipe and a file."""
-        for it in cases:
+    def test_cases(self) -> None:
+        """Standard error is a terminal, a pipe and a file."""
+        for it in [*wrong_cases(), *rejection_cases(), *file_cases(), *other_cases()]:
             with self.subTest(it.words, typed=it.typed), tempfile.TemporaryFile() as file:
                 logged = it.said if it.elsewhere is None else it.elsewhere
                 self.assertEqual(run(it), (it.status, it.written, it.said), "at a terminal")
@@ -379,18 +355,6 @@ class Terminal(RoomCase):
                 self.assertEqual(run(it, file), (it.status, it.written, ""), "with a file")
                 file.seek(0)
                 self.assertEqual(file.read().decode(), logged, "in a file")
-
-    def test_wrong_arguments(self) -> None:
-        self.try_cases(wrong_cases())
-
-    def test_rejected_inputs(self) -> None:
-        self.try_cases(rejection_cases())
-
-    def test_files_that_cannot_be_read(self) -> None:
-        self.try_cases(file_cases())
-
-    def test_other_runs(self) -> None:
-        self.try_cases(other_cases())
 
     def test_both_streams(self) -> None:
         cut = rejection_cases()[0]

@@ -8,7 +8,6 @@ prints them for each FILE, with digits in place of bytes."""
 from __future__ import annotations
 
 import collections
-import functools
 import itertools
 import sys
 import uuid
@@ -16,13 +15,15 @@ from collections.abc import Callable, Iterator, Sequence
 from pathlib import Path
 
 import fv
-from tests.fuzz.pieces import leaf_note
+from tests.fuzz.maker import leaf_note
 from tests.python.outcomes import outcome
 
 # An exit status, and the bytes on standard output.
 Said = tuple[int, bytes]
 # The phases of the types of sections with dependency expressions.
 PHASES = {0x13: fv.Phase.DXE, 0x1B: fv.Phase.PEI, 0x1C: fv.Phase.DXE}
+# The text that the program writes about an accepted volume that is its own image, or another one.
+VERDICTS = {True: "canonical", False: "not canonical"}
 # How many parts of a volume are extracted.
 EXTRACTED = 10
 
@@ -45,16 +46,11 @@ def caught(make: Callable[[bytes], Said], data: bytes, before: str = "") -> Said
         return 2, text([before + fault_text(error.fault)])
 
 
-def verdict(is_canonical: bool) -> str:
-    """Returns the text that the program writes about an accepted volume."""
-    return "canonical" if is_canonical else "not canonical"
-
-
 def check_all(data: bytes) -> Said:
     """Makes the output of `check --all`."""
     lines, worst = [], 0
     for it in fv.image_check(data):
-        found = fault_text(it.fault) if it.fault else verdict(it.canonical)
+        found = fault_text(it.fault) if it.fault else VERDICTS[it.canonical]
         worst = max(worst, 2 if it.fault else int(not it.canonical))
         lines.append(f"volume at {it.offset} length {it.length} {found}")
     return worst, text(lines)
@@ -63,7 +59,7 @@ def check_all(data: bytes) -> Said:
 def check(data: bytes) -> Said:
     """Makes the output of `check`."""
     is_canonical = fv.volume_is_canonical(data)
-    return int(not is_canonical), text([*pad_notes(data), *expression_notes(data), verdict(is_canonical)])
+    return int(not is_canonical), text([*pad_notes(data), *expression_notes(data), VERDICTS[is_canonical]])
 
 
 def pad_notes(data: bytes) -> Iterator[str]:
@@ -84,11 +80,6 @@ def expression_notes(data: bytes) -> Iterator[str]:
             fault = outcome(fv.depex_evaluate, body, PHASES[node.efi_type])
             if isinstance(fault, fv.Fault):
                 yield f"note depex in {file.guid} {fault_text(fault)}"
-
-
-def scan(data: bytes) -> Said:
-    """Makes the output of `scan`."""
-    return 0, text([f"volume at {it.offset} length {it.length}" for it in fv.image_scan(data)])
 
 
 def cells(data: bytes) -> Said:
@@ -157,11 +148,6 @@ def compare(first: bytes, second: bytes) -> Said:
     return int(found is not None), text([found or "same"])
 
 
-def extract(row: int, data: bytes) -> Said:
-    """Makes the output of `extract` for a row of the tree."""
-    return 0, fv.volume_extract(data, row)
-
-
 def front(data: bytes) -> bytes:
     """Returns the volume with which some data begin, or all of the data if they do not begin with a volume."""
     header = outcome(fv.header_read, data)
@@ -171,15 +157,10 @@ def front(data: bytes) -> bytes:
 def outer(nodes: Sequence[fv.Node]) -> Iterator[tuple[int, fv.Node, fv.Node]]:
     """Yields the files of a volume and their sections, without the contents of nested volumes: the number of each row,
     the row, and the row of its file."""
-    inside, file = None, nodes[0]
+    files: dict[int | None, fv.Node] = {}
     for row, node in enumerate(nodes):
-        if inside is not None and node.depth > inside:
-            continue
-        is_nested = node.kind is fv.NodeKind.VOLUME and node.depth > 0
-        inside = node.depth if is_nested else None
-        if node.kind is fv.NodeKind.FILE:
-            file = node
-        if node.kind is not fv.NodeKind.VOLUME:
+        if node.depth == 1 or node.kind is fv.NodeKind.SECTION and node.parent in files:
+            files[row] = file = node if node.depth == 1 else files[node.parent]
             yield row, node, file
 
 
@@ -201,7 +182,7 @@ COMMANDS: dict[str, Callable[[bytes], Said]] = {
     "unfix": lambda data: (0, fv.volume_unfix(data)),
     "check": check,
     "check --all": check_all,
-    "scan": scan,
+    "scan": lambda data: (0, text([f"volume at {it.offset} length {it.length}" for it in fv.image_scan(data)])),
     "cells": cells,
     "hobs": hobs,
     "list": listed,
@@ -216,16 +197,28 @@ def made_by(command: str, data: bytes) -> Said:
     return caught(COMMANDS[command], data, "hob " if command == "hobs" else "")
 
 
+def extract(data: bytes, words: list[str]) -> Said:
+    """Returns what `extract` writes with these arguments, for a part of any file that is not a security core."""
+    volume = front(data)
+    nodes = outcome(fv.volume_tree, volume)
+    if isinstance(nodes, fv.Fault):
+        return 2, text([fault_text(nodes)])
+    named = {" ".join(it): row for row, it in parts(nodes)}
+    if " ".join(words) in named:
+        row = named[" ".join(words)]
+        return caught(lambda it: (0, fv.volume_extract(it, row)), volume)
+    file = named.get(" ".join(words[:2]))
+    return 1, text(["not found" if file is None or nodes[file].content is fv.Content.SECTIONS else "not sectioned"])
+
+
 def outputs(data: bytes) -> Iterator[tuple[list[str], Said]]:
     """Yields what each command with one input writes about some data: its words, and the output."""
     for command in COMMANDS:
         yield command.split(), made_by(command, data)
-    volume = front(data)
-    nodes = outcome(fv.volume_tree, volume)
-    named: Iterator[tuple[int, list[str]]]
-    named = iter([(0, ["--name", str(uuid.UUID(int=0))])]) if isinstance(nodes, fv.Fault) else parts(nodes)
-    for row, words in itertools.islice(named, EXTRACTED):
-        yield ["extract", *words], caught(functools.partial(extract, row), volume)
+    nodes = outcome(fv.volume_tree, front(data))
+    named = () if isinstance(nodes, fv.Fault) else itertools.islice(parts(nodes), EXTRACTED)
+    for words in [*(words for _, words in named), ["--name", str(uuid.UUID(int=0))]]:
+        yield ["extract", *words], extract(data, words)
 
 
 def main() -> None:

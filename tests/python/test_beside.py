@@ -9,6 +9,7 @@ import unittest
 
 import fv
 from tests.frame import PROGRAM, RoomCase, needs_library, needs_program
+from tests.program.test_rows import shown
 from tests.python import said
 from tests.python.outcomes import made
 
@@ -37,17 +38,12 @@ class Beside(RoomCase):
 
     def test_files(self) -> None:
         for name, data in made().items():
-            for words, wanted in said.outputs(data):
+            for words, (status, output) in said.outputs(data):
                 with self.subTest(name, words=words):
-                    self.same(wanted, *words, name)
-
-    def test_digits(self) -> None:
-        for name, data in made().items():
-            for words, (status, output) in said.outputs(data) if len(data) <= MOST_DIGITS else ():
-                if words[0] in said.OF_BYTES and status == 0:
-                    output = b"".join(output[at : at + 32].hex().encode() + b"\n" for at in range(0, len(output), 32))
-                with self.subTest(name, words=words):
-                    self.same((status, output), *words, "--hex", given=data.hex().encode())
+                    self.same((status, output), *words, name)
+                    if len(data) <= MOST_DIGITS:
+                        output = shown(output, words[0] in said.OF_BYTES and status == 0)
+                        self.same((status, output), *words, "--hex", given=data.hex().encode())
 
     def test_volumes_in_images(self) -> None:
         for name, data in made().items():

@@ -12,7 +12,6 @@ import signal
 import sys
 import unittest
 import uuid
-from pathlib import Path
 from typing import Any
 
 import fv
@@ -98,11 +97,6 @@ class Lines(RoomCase):
         for name, data in FILES.items():
             (cls.room / name).write_bytes(data)
 
-    def ran(self, *words: str, **more: Any) -> tuple[int, str, str]:
-        """Returns the status, the output and the messages of a run."""
-        run = self.run_command(*COMMAND, *words, env={"PYTHONPATH": str(Path(fv.__file__).parents[1])}, **more)
-        return run.returncode, run.stdout or "", run.stderr
-
     def test_lines(self) -> None:
         for name, data in FILES.items():
             for command in COMMANDS:
@@ -111,9 +105,9 @@ class Lines(RoomCase):
                 status = max(states, default=0)
                 text = "".join(f"{text_of(it)}\n" for it in wanted)
                 with self.subTest(name, command=command):
-                    said = self.ran(command, name, "--json")
-                    self.assertEqual((said[0], [*map(json.loads, said[1].splitlines())]), (status, wanted))
-                    self.assertEqual(self.ran(command, name), (status, text, ""))
+                    said = self.runs(status, *COMMAND, command, name, "--json")
+                    self.assertEqual([*map(json.loads, said.splitlines())], wanted)
+                    self.expect(status, text.rstrip("\n"), *COMMAND, command, name)
 
     def test_text(self) -> None:
         form, length = "efi_type 7 attributes 0", "header_length 72"
@@ -130,25 +124,25 @@ class Lines(RoomCase):
                 ],
             ),
         ):
-            self.assertEqual(self.ran(command, "depex")[1].splitlines()[: len(lines)], lines)
+            self.assertEqual(self.run_command(*COMMAND, command, "depex").stdout.splitlines()[: len(lines)], lines)
 
     def test_usage(self) -> None:
         for words in ((), ("tree",), ("files", "named"), ("tree", "named", "named"), ("tree", "named", "--sums")):
-            status, text, message = self.ran(*words)
-            self.assertEqual((status, text, message[:22]), (3, "", "usage: python3 -m fv ["), words)
+            self.refuses("usage: python3 -m fv [", *COMMAND, *words)
 
     def test_missing_file(self) -> None:
-        status, text, message = self.ran("tree", "missing")
-        self.assertEqual((status, text, message[:15]), (2, "", "python3 -m fv: "))
+        said = self.run_command(*COMMAND, "tree", "missing")
+        self.assertEqual((said.returncode, said.stdout, said.stderr[:15]), (2, "", "python3 -m fv: "))
 
     def test_outputs(self) -> None:
-        with open("/dev/full", "wb") as full:
-            self.assertEqual(self.ran("check", "named", capture_output=False, stdout=full, stderr=-1)[0], 4)
+        # The output is full, or closed.
+        shell = ("bash", "-c", '"$@" check named > /dev/full', "bash", *COMMAND)
+        self.assertEqual(self.run_command(*shell).returncode, 4)
         reader, writer = os.pipe()
         os.close(reader)
-        closed = self.ran("check", "named", capture_output=False, stdout=writer, stderr=-1)
+        closed = self.run_command(*COMMAND, "check", "named", capture_output=False, stdout=writer, stderr=-1)
         os.close(writer)
-        self.assertEqual(closed[::2], (-signal.SIGPIPE, ""))
+        self.assertEqual((closed.returncode, closed.stderr), (-signal.SIGPIPE, ""))
 
 
 if __name__ == "__main__":

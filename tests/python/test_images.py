@@ -10,7 +10,6 @@ import sys
 import unittest
 import unittest.mock
 import uuid
-from collections.abc import Iterator
 
 import fv
 from fv import images
@@ -27,14 +26,6 @@ except ImportError:
 ALPHA, FIXED = made.guid(1), made.file(made.guid(4), made.noise("d", 777), attributes=made.FIXED)
 
 
-def parts_of(content: images.Content) -> Iterator[images.Part]:
-    """Yields the volumes, and then the files at every level with their sections."""
-    yield from content.volumes
-    for _, file in images.files_in(content):
-        yield file
-        yield from images.every_leaf(file.sections)
-
-
 def names_of(data: bytes, limits: Limits = Limits()) -> list[str]:
     """Returns the readable names of the files in an image."""
     return [file.name for _, file in images.files_in(images.read(data, limits)) if file.name]
@@ -42,19 +33,23 @@ def names_of(data: bytes, limits: Limits = Limits()) -> list[str]:
 
 def closed_in(data: bytes, limits: Limits = Limits()) -> list[str]:
     """Returns why sections of an image are not opened."""
-    return [it.closed for it in parts_of(images.read(data, limits)) if isinstance(it, images.Section) and it.closed]
+    files = images.files_in(images.read(data, limits))
+    return [leaf.closed for _, it in files for leaf in images.every_leaf(it.sections) if leaf.closed]
+
+
+def holding(*sections: bytes) -> bytes:
+    """Returns a volume with one file that holds sections."""
+    return made.volume([made.file(made.guid(1), made.stream(*sections), made.FREEFORM)])
 
 
 def packed_file(data: bytes) -> bytes:
-    """Returns a volume with one file that holds a compression section of type 1."""
-    return made.volume([made.file(made.guid(1), made.section(0x01, data), made.FREEFORM)])
+    """Returns a volume with a compression section of type 1."""
+    return holding(made.section(0x01, data))
 
 
 def brotli_file(data: bytes, length: int) -> bytes:
-    """Returns a volume with one file that holds a section of Brotli data, whose header says how long the contents
-    are."""
-    packed = made.guided(made.BROTLI, data, fields=struct.pack("<QQ", length, 0))
-    return made.volume([made.file(made.guid(1), packed, made.FREEFORM)])
+    """Returns a volume with a section of Brotli data, whose header says how long the contents are."""
+    return holding(made.guided(made.BROTLI, data, fields=struct.pack("<QQ", length, 0)))
 
 
 def unread_in(data: bytes) -> list[tuple[str, str]]:
@@ -96,12 +91,10 @@ class Images(unittest.TestCase):
         # Reads a volume with fixed files. Its bytes and the bodies of its files are slices of the image.
         data = made.flash(made.volume([made.A, FIXED, made.GONE, made.C]))
         (volume,) = images.read(data).volumes
-        self.assertIsNone(volume.fault)
-        self.assertEqual(len(volume.files), 3)
+        self.assertEqual((volume.fault, len(volume.files), volume.is_marked), (None, 3, True))
         self.assertEqual(volume.body, data[4096 : 4096 + volume.length])
         self.assertEqual([data[it.offset - it.header_length + 19] for it in volume.fixed], [made.FIXED])
         free = made.volume([made.A, made.file(made.guid(4), made.noise("d", 777)), made.C])
-        self.assertTrue(volume.is_marked)
         self.assertTrue(volume.plain != volume.body)
         self.assertIsNone(fv.volume_compare(volume.plain, free))
         for it in volume.files:
@@ -111,9 +104,7 @@ class Images(unittest.TestCase):
         self.assertTrue(all(len(it.fixed) == 1 for it in many))
         self.assertEqual(len({id(it.data) for it in many}), 1)
         (volume,) = images.read(made.IMAGES["damaged.fd"]()).volumes[:1]
-        self.assertEqual(str(volume.fault), "fault 11 at 4168")
-        self.assertEqual(volume.files, [])
-        self.assertIsNone(volume.guid)
+        self.assertEqual((str(volume.fault), volume.files, volume.guid), ("fault 11 at 4168", [], None))
         (volume,) = images.read(made.IMAGES["fixed-inside.fv"]()).volumes
         inner = volume.files[0].sections[0].volume
         self.assertIsNone(volume.fault)
@@ -170,48 +161,49 @@ class Images(unittest.TestCase):
         self.assertEqual(found, [("volume", "it is in a volume that is rejected")])
         for content, count in ((made.section(made.RAW, inner), 1), (made.section(made.VOLUME, inner), 0)):
             packed = made.guided(made.CRC32, made.stream(made.ui("Own"), content))
-            (volume,) = images.read(made.volume([made.file(made.guid(1), packed, made.FREEFORM)])).volumes
+            (volume,) = images.read(holding(packed)).volumes
             opened = volume.files[0].sections[0].opened
             parts = opened and [(it.what, it.reason) for it in opened.unread]
             self.assertEqual((parts, volume.unread), ([("volume", unread)] * count, []))
 
     def test_remains(self) -> None:
-        # Reports pads that hold bytes, and files that are deleted, unfinished or superseded.
-        self.assertEqual(unread_in(made.volume([made.A, made.pad(bytes(9)), made.B, made.pad(b"\xff" * 9)])), [])
-        table = unread_in(made.volume([made.pad(b"_FIT_   " + bytes(9))]))
-        self.assertEqual(table, [("pad", "a pad holds bytes: firmware interface table")])
-        (part,) = images.read(made.flash(made.volume([made.A, made.GONE, made.B]))).volumes[0].unread
-        noise = made.noise("d", 777)
-        self.assertEqual((part.what, part.guid, part.body[24:801]), ("deleted file", made.guid(4), noise))
-        begun = made.file(made.guid(4), made.noise("d", 777), state=0x03)
-        self.assertEqual([it[0] for it in unread_in(made.volume([made.A, begun, made.B]))], ["unfinished file"])
-        before = made.file(made.guid(2), made.noise("b", 50), state=0x0F)
-        self.assertEqual([it[0] for it in unread_in(made.volume([made.A, before, made.B]))], ["superseded file"])
-        marked = made.file(made.guid(2), made.noise("b", 50), attributes=made.FIXED, state=0x0F)
-        inner = made.section(made.VOLUME, made.volume([marked, made.B], 0x1000))
-        nested = made.file(made.guid(6), inner, made.VOLUME_IMAGE)
-        for data in (made.volume([marked, made.B]), made.volume([nested])):
-            volumes = [volume for volume, _ in images.files_in(images.read(data))]
-            self.assertEqual([it.what for it in volumes[-1].unread], ["superseded file"])
-            self.assertIsNone(volumes[-1].fault)
-        filled = made.C[:-1] + b"\1"
-        self.assertEqual(unread_in(made.volume([filled, made.B])), [("filler", "bytes between two files")])
+        # Reports pads that hold bytes, filler, sections in files of unknown types, and bytes beside the volumes.
         named = made.volume([made.B], name=made.guid(9))
-        self.assertEqual((unread_in(named), unread_in(changed(named, 72, *b"hidden"))), ([], []))
         sections = made.stream(made.section(made.PE32, made.noise("a", 300)), made.ui("Hidden"))
         found = [("sections", "sections in a file of the unknown type 00")]
-        for kind, data, expected in (
-            (0x00, sections, found),
-            (0x00, made.section(made.RAW, b"") * 5000 + b"more", found),
-            (0x00, sections[:-9], []),
-            (made.RAW_FILE, sections, []),  # as the reset vector of EDK II
-        ):
-            self.assertEqual(unread_in(made.volume([made.file(made.guid(1), data, kind)])), expected)
-        for gap in (bytes(64), b"\xff" * 64):
-            self.assertEqual(unread_in(gap + made.SMALL + gap), [])
-        self.assertEqual(unread_in(b"A" * 64 + made.SMALL), [("", "it is in no volume")])
         descriptor = b"\xff" * 16 + b"\x5a\xa5\xf0\x0f" + bytes(4076)
-        self.assertEqual(unread_in(descriptor + made.SMALL), [("flash descriptor", "it is in no volume")])
+        for data, expected in (
+            (made.volume([made.A, made.pad(bytes(9)), made.B, made.pad(b"\xff" * 9)]), []),
+            (made.volume([made.pad(b"_FIT_   " + bytes(9))]), [("pad", "a pad holds bytes: firmware interface table")]),
+            (made.volume([made.C[:-1] + b"\1", made.B]), [("filler", "bytes between two files")]),
+            (named, []),
+            (changed(named, 72, *b"hidden"), []),
+            (made.volume([made.file(made.guid(1), sections, 0x00)]), found),
+            (made.volume([made.file(made.guid(1), made.section(made.RAW, b"") * 5000 + b"more", 0x00)]), found),
+            (made.volume([made.file(made.guid(1), sections[:-9], 0x00)]), []),
+            (made.volume([made.file(made.guid(1), sections, made.RAW_FILE)]), []),  # as the reset vector of EDK II
+            (bytes(64) + made.SMALL + bytes(64), []),
+            (b"\xff" * 64 + made.SMALL + b"\xff" * 64, []),
+            (b"A" * 64 + made.SMALL, [("", "it is in no volume")]),
+            (descriptor + made.SMALL, [("flash descriptor", "it is in no volume")]),
+        ):
+            self.assertEqual(unread_in(data), expected)
+
+    def test_states(self) -> None:
+        # Reports files that are deleted, unfinished or superseded.
+        noise, old = made.noise("d", 777), made.noise("b", 50)
+        (part,) = images.read(made.flash(made.volume([made.A, made.GONE, made.B]))).volumes[0].unread
+        self.assertEqual((part.what, part.guid, part.body[24:801]), ("deleted file", made.guid(4), noise))
+        before, marked = (made.file(made.guid(2), old, attributes=it, state=0x0F) for it in (0, made.FIXED))
+        inner = made.section(made.VOLUME, made.volume([marked, made.B], 0x1000))
+        for files, what in (
+            ([made.A, made.file(made.guid(4), noise, state=0x03), made.B], "unfinished file"),
+            ([made.A, before, made.B], "superseded file"),
+            ([marked, made.B], "superseded file"),
+            ([made.file(made.guid(6), inner, made.VOLUME_IMAGE)], "superseded file"),
+        ):
+            *_, (volume, _) = images.files_in(images.read(made.volume(files)))
+            self.assertEqual(([it.what for it in volume.unread], volume.fault), ([what], None))
 
     def test_doubts(self) -> None:
         # Opens a section whose checksum is wrong or whose data have bytes after their end, and says so.
@@ -227,7 +219,7 @@ class Images(unittest.TestCase):
             (made.compression(text), None),
             (made.compression(text, 5), other),
         ):
-            (file,) = images.read(made.volume([made.file(made.guid(1), packed, made.FREEFORM)])).volumes[0].files
+            (file,) = images.read(holding(packed)).volumes[0].files
             opened = file.sections[0].opened
             self.assertEqual((opened and opened.doubts, file.name), ([doubt] if doubt else [], "Text"))
 
@@ -268,9 +260,8 @@ class Images(unittest.TestCase):
             (cut, Limits(wasted=10 << 20), 3, "LZMA: the data are cut short"),
             (full, Limits(parts=60), 37, "more than 60 parts"),
         ):
-            data = made.volume([made.file(made.guid(1), made.stream(*[packed] * 40), made.FREEFORM)])
             no_more = f"more than {limits.wasted} bytes that are not kept"
-            found = closed_in(data, limits)
+            found = closed_in(holding(*[packed] * 40), limits)
             self.assertEqual(found, [reason] * count + [no_more] * (40 - count), found)
 
     def test_tiano(self) -> None:
@@ -281,9 +272,7 @@ class Images(unittest.TestCase):
         for width in (4, 5):
             packed = made.packed_by_tiano(driver, width)
             self.assertEqual(names_of(packed_file(head + packed)), ["Old"])
-            guided = made.guided(made.TIANO, packed)
-            found = names_of(made.volume([made.file(made.guid(1), guided, made.FREEFORM)]))
-            self.assertEqual(found, ["Old"] * (width == 5))
+            self.assertEqual(names_of(holding(made.guided(made.TIANO, packed))), ["Old"] * (width == 5))
             slow = closed_in(packed_file(head + packed), Limits(slow=4000))
             self.assertEqual(slow, ["more than 4000 symbols of slow compression"])
             for wrong in (packed[:7], packed[:-20], packed[:8] + made.noise("tiano", 300)):

@@ -25,7 +25,7 @@ import types
 import unittest
 import uuid
 from array import array
-from collections.abc import Sequence
+from collections.abc import Iterable, Sequence
 from operator import setitem
 from pathlib import Path
 from typing import Any
@@ -33,7 +33,6 @@ from typing import Any
 import fv
 import rows
 from fv import _errors, _library, _native, names
-from tests import making
 from tests.checks import ROOT, read
 from tests.frame import RoomCase, needs_library, needs_tool
 from tests.python.outcomes import OF_IMAGE, OF_VOLUME, Call, grouped, outcome, raised, volume_of
@@ -42,7 +41,6 @@ PACKAGE = Path(fv.__file__).parent
 HEADER = read(ROOT / "libfv/include/fv.h")
 CC = os.environ.get("CC", "cc")
 A, B = uuid.UUID(int=1), uuid.UUID(int=2)
-NAME = uuid.UUID(bytes=b"\x0a" * 16)
 # An expression that is true if both GUIDs are installed.
 BOTH = b"\2" + A.bytes_le + b"\2" + B.bytes_le + b"\3\10"
 # A file with one section, whose body is one byte, and a volume of this file.
@@ -114,7 +112,8 @@ class Names(unittest.TestCase):
     @needs_tool(CC)
     def test_layouts(self) -> None:
         # The C compiler has the sizes and offsets of the formats.
-        declared = self.interface()
+        words = [str(ROOT / "libfv/generate"), "--interface"]  # writes what fv.h declares
+        declared = subprocess.run(words, capture_output=True, text=True, check=True).stdout
         sizes = dict(re.findall(r"(?m)^structure fv_(\w+) (\d+)$", declared))
         formats = {name: struct.calcsize(it) for name, it in vars(_native).items() if name.endswith("_FORMAT")}
         self.assertEqual(formats, {f"{name.upper()}_FORMAT": int(size) for name, size in sizes.items()})
@@ -125,12 +124,6 @@ class Names(unittest.TestCase):
         text = "#include <fv.h>\n" + "".join(f'_Static_assert({it}, "{it}");\n' for it in wanted)
         command = [CC, "-std=c11", f"-I{ROOT}/libfv/include", "-fsyntax-only", "-x", "c", "-"]
         subprocess.run(command, input=text.encode(), check=True)
-
-    def interface(self) -> str:
-        """Returns the structures and fields that fv.h declares."""
-        command = [str(ROOT / "libfv/generate"), "--interface"]
-        run = subprocess.run(command, capture_output=True, text=True, check=True)
-        return run.stdout
 
 
 class Libraries(RoomCase):
@@ -270,38 +263,12 @@ class Values(unittest.TestCase):
             self.assertEqual((type(copied), copied), (type(found), found))
 
     def test_rows(self) -> None:
-        header = fv.Header(0, len(VOLUME), 72, 72, 0x4FEFF, 2, 255, None)
-        self.assertEqual(fv.header_read(VOLUME + b"more"), header)
-        self.assertEqual(fv.image_scan(bytes(8) + VOLUME), [dataclasses.replace(header, offset=8)])
-        nodes = fv.volume_tree(VOLUME)
-        wanted = [
-            fv.Node(0, len(VOLUME), None, 0, 0, fv.NodeKind.VOLUME, fv.Content.FILES, None, 0x4FEFF, 72, None, 2),
-            fv.Node(96, 5, 0, 0, 1, fv.NodeKind.FILE, fv.Content.SECTIONS, 2, 0, 24, NAME, None),
-            fv.Node(100, 1, 1, 0, 2, fv.NodeKind.SECTION, fv.Content.BYTES, 0x19, None, 4, None, None),
-        ]
-        self.assertEqual(nodes, wanted)
-        self.assertEqual((type(nodes[0].kind), type(nodes[0].content)), (fv.NodeKind, fv.Content))
-        with_free_space = rows.volume_of(rows.file_of(2, SECTION) + b"\xff" * 67)
-        cells = fv.volume_cells(with_free_space)
-        wanted_cells = [
-            fv.Cell(72, 29, fv.CellKind.FILE, 24, 2, 0, NAME),
-            fv.Cell(104, 64, fv.CellKind.FREE, None, None, None, None),
-        ]
-        self.assertEqual(cells, wanted_cells)
-        named = rows.spelled("ext-header-bare")
-        name = uuid.UUID(bytes=b"\x0e" * 16)
-        self.assertEqual((fv.header_read(named).name, fv.volume_tree(named)[0].guid), (name, name))
-        found = fv.hobs_read(hob(1, 56) + hob(5, 24, struct.pack("<QQ", 64, 4096)) + hob(0xFFFF, 8) + b"more")
-        blocks = [fv.Hob(None, None, 1, 56), fv.Hob(64, 4096, 5, 24), fv.Hob(None, None, 0xFFFF, 8)]
-        self.assertEqual((found.length, found.blocks), (88, blocks))
-        values = [header, nodes[0], cells[0], found.blocks[0], fv.image_check(VOLUME)[0], found]
-        self.assertTrue(all(map(is_frozen, values)) and len({*values[:5]}) == 5)
-        self.assertTrue(all(copied == value for value in values for copied in again(value)))
-
-    def test_fields(self) -> None:
         data, name = grouped(), uuid.UUID(bytes_le=bytes(range(11, 27)))
+        header = fv.Header(0, 160, 72, 72, 0x4FEFF, 2, 255, None)
+        self.assertEqual(fv.header_read(data + b"more"), header)
+        self.assertEqual(fv.image_scan(bytes(8) + data), [dataclasses.replace(header, offset=8)])
         section, group = fv.NodeKind.SECTION, fv.Content.SECTIONS
-        wanted = [
+        nodes = [
             fv.Node(0, 160, None, 0, 0, fv.NodeKind.VOLUME, fv.Content.FILES, None, 0x4FEFF, 72, None, 2),
             fv.Node(96, 44, 0, 0, 1, fv.NodeKind.FILE, group, 2, 0x40, 24, name, None),
             fv.Node(104, 6, 1, 0, 2, section, fv.Content.BYTES, 0x14, None, 8, None, None),
@@ -310,27 +277,35 @@ class Values(unittest.TestCase):
             fv.Node(132, 0, 3, 1, 3, section, group, 0x03, None, 4, None, None),
             fv.Node(136, 3, 1, 2, 2, section, fv.Content.BYTES, 0x19, None, 4, None, None),
         ]
-        self.assertEqual(fv.volume_tree(data), wanted)
-        for row, node in enumerate(wanted):
+        found = fv.volume_tree(data)
+        self.assertEqual(found, nodes)
+        self.assertEqual({(type(it.kind), type(it.content)) for it in found}, {(fv.NodeKind, fv.Content)})
+        for row, node in enumerate(nodes):
             self.assertEqual(fv.volume_extract(data, row), data[node.offset : node.offset + node.length])
         cells = [fv.Cell(72, 68, fv.CellKind.FILE, 24, 2, 0x40, name)]
         cells.append(fv.Cell(144, 16, fv.CellKind.FREE, None, None, None, None))
         self.assertEqual(fv.volume_cells(data), cells)
-        self.assertEqual(fv.header_read(data), fv.Header(0, 160, 72, 72, 0x4FEFF, 2, 255, None))
         # The output of `sha256sum` for the bytes b1, b2 and b3.
         digest = "0de80e00e7763e2e4197607b23278a56debaac84613f97f439a670286d04866c"
         self.assertEqual(fv.volume_tree_digests(data)[6], bytes.fromhex(digest))
-        fault = outcome(fv.volume_compare, data, grouped(40))
-        self.assertEqual(fault, fv.Fault(fv.FaultCode.SECTION_SIZE, 116, 1, 1))
 
-    def test_digests(self) -> None:
-        inside = [hashlib.sha256(part).digest() for part in (SECTION, b"z")]
-        self.assertEqual(fv.volume_tree_digests(VOLUME), [fv.volume_digest(VOLUME), *inside])
-        # The output of `sha256sum` for the empty volume, which is its own image.
-        wanted = "fa2372b57e3223fafe321ef347cb77d4373819ad5abdea2446fff51d258ed758"
-        self.assertEqual(fv.volume_digest(rows.spelled("empty")).hex(), wanted)
-        group = volume_of(b"\x09\x00\x00\x03" + SECTION)
-        self.assertEqual([it is None for it in fv.volume_tree_digests(group)], [False, False, True, False])
+    def test_other_rows(self) -> None:
+        data, wrong = grouped(), grouped(40)
+        fault = fv.Fault(fv.FaultCode.SECTION_SIZE, 116, 1, 1)
+        self.assertEqual(outcome(fv.volume_compare, data, wrong), fault)
+        # The row of a rejected volume has its fault.
+        checks = [fv.VolumeCheck(0, 160, None, True), fv.VolumeCheck(160, 160, fv.Fault(19, 276, 1), False)]
+        self.assertEqual(fv.image_check(data + wrong), checks)
+        named = rows.spelled("ext-header-bare")
+        name = uuid.UUID(bytes=b"\x0e" * 16)
+        self.assertEqual((fv.header_read(named).name, fv.volume_tree(named)[0].guid), (name, name))
+        listed = fv.hobs_read(hob(1, 56) + hob(5, 24, struct.pack("<QQ", 64, 4096)) + hob(0xFFFF, 8) + b"more")
+        blocks = [fv.Hob(None, None, 1, 56), fv.Hob(64, 4096, 5, 24), fv.Hob(None, None, 0xFFFF, 8)]
+        self.assertEqual((listed.length, listed.blocks), (88, blocks))
+        firsts = [call(data)[0] for call in (fv.image_scan, fv.volume_tree, fv.volume_cells)]
+        values = [*firsts, listed.blocks[0], fv.image_check(data + wrong)[1], listed]
+        self.assertTrue(all(map(is_frozen, values)) and len({*values[:5]}) == 5)
+        self.assertTrue(all(copied == value for value in values for copied in again(value)))
 
     def test_many_rows(self) -> None:
         # A call returns all rows, whatever room its first buffer has.
@@ -350,47 +325,12 @@ class Values(unittest.TestCase):
         # A volume of empty sections of four bytes has more rows than the first buffer has room for.
         self.assertEqual(len(fv.volume_tree(volume_of(b"\x04\x00\x00\x19" * 5000))), 5002)
 
-    def test_checks(self) -> None:
-        # The row of a rejected volume has its fault.
-        wrong = VOLUME.replace(b"\x05\x00\x00\x19", b"\x03\x00\x00\x19")
-        fault = outcome(fv.volume_is_canonical, wrong)
-        wanted = dataclasses.replace(fault, offset=fault.offset + len(VOLUME))
-        size, found = len(VOLUME), fv.image_check(VOLUME + wrong)
-        self.assertEqual(found, [fv.VolumeCheck(0, size, None, True), fv.VolumeCheck(size, size, wanted, False)])
-        self.assertTrue(all(copied == found and copied[1].fault.text == fault.text for copied in again(found)))
-        self.assertEqual(fv.image_check(wrong[8:]), [])
-
-    def test_comparison(self) -> None:
-        found = fv.volume_compare(VOLUME, VOLUME.replace(b"z", b"y"))
-        self.assertEqual(found, "different at file 0 section 0 body")
-
-    def test_marks(self) -> None:
-        # A volume with a fixed file is read without the mark, and the given bytes stay as they are.
-        at, marked = 72, rows.volume_of(making.file(NAME, SECTION, making.FREEFORM, making.FIXED))
-        for call in OF_VOLUME:
-            if call != fv.volume_unfix:
-                self.assertEqual(outcome(call, marked), fv.Fault(fv.FaultCode.FIXED, at + 19))
-        for data in (marked, bytearray(marked)):
-            for copied in (True, False):
-                self.assertEqual((fv.volume_unfix(data, copy=copied), data), (VOLUME, marked))
-        self.assertEqual(outcome(fv.volume_unfix, marked + b"\0"), fv.Fault(fv.FaultCode.LENGTH, len(VOLUME)))
-        self.assertEqual(outcome(fv.volume_unfix, b""), fv.Fault(fv.FaultCode.TRUNCATED, 0))
-        damaged = bytearray(marked)
-        damaged[at + 17] ^= 1
-        self.assertEqual(outcome(fv.volume_unfix, damaged), fv.Fault(fv.FaultCode.FILE_SUM, at + 17))
-
     def test_expressions(self) -> None:
-        for phase, installed, wanted in (
-            (fv.Phase.PEI, [A, B], True),
-            (fv.Phase.PEI, {B}, False),
-            (fv.Phase.DXE, iter((B, A)), True),
-            (fv.Phase.DXE, (), False),
-        ):
-            self.assertIs(fv.depex_evaluate(BOTH, phase, installed), wanted)
-        before = b"\0" + A.bytes_le + b"\10"
-        self.assertIsNone(fv.depex_evaluate(before))
-        self.assertEqual(outcome(fv.depex_evaluate, before, fv.Phase.PEI).code, fv.FaultCode.DEPEX_OPCODE)
-        self.assertIs(fv.depex_evaluate(bytearray(BOTH), fv.Phase.DXE, [A, B], copy=False), True)
+        both: tuple[Iterable[uuid.UUID], ...] = [A, B], {A, B}, iter((B, A))
+        for installed in both:
+            self.assertIs(fv.depex_evaluate(bytearray(BOTH), fv.Phase.PEI, installed, copy=False), True)
+        self.assertIs(fv.depex_evaluate(BOTH), False)
+        self.assertIsNone(fv.depex_evaluate(b"\0" + A.bytes_le + b"\10"))  # PEI has no such op
         short = types.SimpleNamespace(bytes_le=A.bytes_le[:5])
         self.assertEqual(str(raised(fv.depex_evaluate, BOTH, fv.Phase.PEI, [A, short])), "a GUID has 16 bytes")
 
@@ -413,7 +353,8 @@ class Buffers(unittest.TestCase):
     """Each kind of buffer is read, and no buffer is changed."""
 
     def test_kinds(self) -> None:
-        image, tree = fv.volume_normalise(VOLUME), fv.volume_tree(VOLUME)
+        calls: list[Call] = [*OF_VOLUME, *OF_IMAGE, fv.header_read]
+        wanted = [call(VOLUME) for call in calls]
         with tempfile.TemporaryFile() as file:
             file.write(VOLUME)
             file.flush()
@@ -426,14 +367,10 @@ class Buffers(unittest.TestCase):
             kinds += [pickle.PickleBuffer(VOLUME), view.toreadonly()]
             for data in kinds:
                 for copied in (False, True):
-                    self.assertEqual(fv.volume_normalise(data, copy=copied), image)
-                    self.assertEqual(fv.volume_tree(data, copy=copied), tree)
-                    self.assertEqual(fv.volume_digest(data, copy=copied), hashlib.sha256(image).digest())
-                    self.assertIsNone(fv.volume_compare(data, image, copy=copied))
-                    self.assertIsNone(fv.volume_compare(image, data, copy=copied))
-                    self.assertEqual([it.offset for it in fv.image_scan(data, copy=copied)], [0])
+                    self.assertEqual([call(data, copy=copied) for call in calls], wanted)
+                    self.assertIsNone(fv.volume_compare(data, VOLUME, copy=copied))
+                    self.assertIsNone(fv.volume_compare(VOLUME, data, copy=copied))
                     self.assertEqual(fv.volume_extract(data, 2, copy=copied), b"z")
-                    self.assertEqual(len(fv.volume_cells(data, copy=copied)), 1)
                 self.assertEqual(bytes(memoryview(data)), VOLUME)
             del data, kinds[:]
             for it in maps:

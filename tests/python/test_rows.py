@@ -1,62 +1,56 @@
 # SPDX-License-Identifier: BSD-2-Clause-Patent
-"""The calls of the package over the rows of crates/fv_run_tests/rows, whose results were worked out by hand, except for
-trees (test_trees.py). In some volumes, each byte is then replaced by every other value: the calls have to agree on each
-input, and the image of an input has to be its own image."""
+"""The calls of the package over the rows of crates/fv_run_tests/rows, whose results were worked out by hand, and over
+made inputs. The runs of tests/program/test_rows.py are made by the calls too (said.py). In some volumes, each byte is
+then replaced by every other value. (The checks of tests/fuzz/libfv compare the rows of trees, cells and images with
+their bytes, and the calls with each other.)"""
 
 from __future__ import annotations
 
+import hashlib
 import unittest
 import uuid
-from collections.abc import Callable, Iterator
+from collections.abc import Iterator
 
 import fv
 import rows
 from tests.frame import needs_library
+from tests.fuzz.cases import make_case
+from tests.program.test_rows import Run, row_cases
 from tests.python import said
-from tests.python.outcomes import outcome, place
+from tests.python.outcomes import made, outcome, place
 
-FIXED, NO_ROOM, TOP_ALIGNMENT = 15, 22, 23
-# The files of rows whose commands make their output from the results of calls.
-RUNS = ("normalise", "extract", "scan", "hobs", "list", "sums", "check", "cells", "unfix", "compare")
-# The other names of commands in the rows.
-COMMANDS = {"normalise-all": "normalise --all", "check-all": "check --all", "list-sums": "list --sums"}
-# How many of these rows are runs of a command over bytes, from their first byte on, by a command with a call. The rows
-# for other runs are for tests/program/test_rows.py only.
-RUN = 278
-# Canonical images with an extended header, a pad before an aligned file, and a volume inside.
-IMAGES = ("ext-header-image", "misaligned-file-image", "nested-image")
-VOLUMES = (
-    *("empty", "file-sum-zero-data", "ext-header-bare", "misaligned-file", "two-sections"),
-    *("nested-with-deleted-file", "security-core-frames"),
+NO_ROOM, TOP_ALIGNMENT = 22, 23
+# The rows whose runs are about files and arguments, and the options of other runs that the program has by itself.
+OWN_ROWS, OWN_OPTIONS = ("opened", "wrong", "endless"), {"--hex", "--at", "--other-at", "--image"}
+# Volumes, and canonical images: with an extended header, a pad before an aligned file, and a volume inside.
+REPLACED = (
+    *("ext-header-image", "misaligned-file-image", "nested-image", "empty", "file-sum-zero-data", "ext-header-bare"),
+    *("misaligned-file", "two-sections", "nested-with-deleted-file", "security-core-frames"),
 )
+# The longest volume of the rows that is cut short at every length.
+MOST_CUT = 4096
+# How many inputs are made by the fuzzer.
+MADE = 300
 
 
-def written(status: str, output: str) -> said.Said:
-    """Returns the status and the output that a row gives."""
-    return int(status), rows.spelled(output[1:]) if output.startswith("=") else output.replace("|", "\n").encode()
-
-
-def extracted(data: bytes, byte: str, section: str, instance: str) -> said.Said | None:
-    """Returns what `extract` writes, or None if a call names no such part: a section of a security core, or a part that
-    the volume does not have."""
-    volume = said.front(data)
-    words = ["--name", str(uuid.UUID(bytes=bytes.fromhex(byte) * 16))]
-    words += [] if section == "-" else ["--section", section, "--instance", instance]
-    numbers = [row for row, named in said.parts(fv.volume_tree(volume)) if named == words]
-    return said.caught(lambda it: said.extract(numbers[0], it), volume) if numbers else None
-
-
-def output_of(command: str, words: str) -> said.Said | None:
-    """Returns what a command writes for the inputs of a row, or None if no calls make this output."""
-    name, *rest = command.split()
-    if words.startswith("'") or " & '" in words or "at" in rest:
+def made_by_calls(run: Run) -> said.Said | None:
+    """Returns what a run writes, or None if the program has a part in it that no call has: an option, or the sections
+    of a security core."""
+    command, *words = (it for it in run.arguments if it not in run.files)
+    inputs = [run.files[it] for it in run.arguments if it in run.files] or [run.standard]
+    if OWN_OPTIONS & {*words}:
         return None
-    inputs = [rows.spelled(it) for it in words.split(" & ")]
-    if name == "compare":
+    if command == "compare":
         return said.compare(*inputs)
-    if name == "extract":
-        return extracted(inputs[0], *rest)
-    return None if rest else said.made_by(COMMANDS.get(name, name), inputs[0])
+    if command != "extract":
+        return said.made_by(" ".join([command, *words]), inputs[0])
+    named = dict(zip(words[::2], words[1::2]))
+    options = [it for it in ("--name", "--section", "--instance") if "--section" in named or it == "--name"]
+    nodes = outcome(fv.volume_tree, said.front(inputs[0]))
+    if len(options) > 1 and not isinstance(nodes, fv.Fault):
+        if any(str(it.guid) == named["--name"] and it.efi_type == 3 for it in nodes if it.depth == 1):
+            return None
+    return said.extract(inputs[0], [word for it in options for word in (it, named[it])])
 
 
 def pairs(heading: str) -> Iterator[tuple[bytes, str]]:
@@ -75,50 +69,61 @@ def replaced(data: bytes) -> Iterator[bytes]:
 
 
 def agree(data: bytes) -> bool:
-    """Returns whether two calls agree on some bytes. If the bytes are a volume, volume_is_canonical returns whether
-    volume_normalise returns the same bytes, and false if the volume does not fit. Otherwise both calls have the same
-    fault."""
+    """Returns whether the calls agree on some bytes. If the bytes are a volume, volume_is_canonical returns whether
+    volume_normalise returns the same bytes, and the image is its own image and has the meaning of the volume; if the
+    volume does not fit, volume_is_canonical returns false. Otherwise both calls have the same fault."""
     judged, image = place(fv.volume_is_canonical, data), place(fv.volume_normalise, data)
-    if isinstance(judged, bool):
-        return judged == (image == data) and (isinstance(image, bytes) or image[0] in (NO_ROOM, TOP_ALIGNMENT))
-    return bool(judged == image)
-
-
-def keeps(data: bytes) -> bool:
-    """Returns whether some bytes have no image, or an image that is its own image and has their meaning."""
-    image = outcome(fv.volume_normalise, data)
-    if not isinstance(image, bytes):
-        return True
-    return fv.volume_normalise(image) == image and fv.volume_compare(data, image) is None
+    if isinstance(image, bytes):
+        is_own = fv.volume_normalise(image) == image and fv.volume_compare(data, image) is None
+        return is_own and judged is (image == data)
+    return judged is False if image[0] in (NO_ROOM, TOP_ALIGNMENT) else bool(judged == image)
 
 
 @needs_library
-class Volumes(unittest.TestCase):
-    """Images, headers, cells and faults of volumes and flash images."""
+class Rows(unittest.TestCase):
+    """The inputs of the rows."""
 
     maxDiff = None
 
     def test_runs(self) -> None:
-        run = 0
-        for row in (row for name in RUNS for row in rows.tables(name)[""]):
-            command, words, wanted = rows.parts(row)
-            found = output_of(command, words)
-            run += found is not None
-            with self.subTest(row):
-                self.assertIn(found, (None, written(*wanted.partition(" ")[::2])))
-        self.assertEqual(run, RUN)
+        tried = 0
+        for name, runs in row_cases():
+            for run in runs if name.partition(".")[0] not in OWN_ROWS else ():
+                if (found := made_by_calls(run)) is not None:
+                    tried += 1
+                    with self.subTest(name, label=run.label[:300], words=run.arguments):
+                        # (assertEqual would take minutes to show how long texts differ.)
+                        self.assertTrue((found[0], run.look(found[1])) == (run.status, run.output), found[1][:300])
+        self.assertGreater(tried, 4000)
 
-    def test_images(self) -> None:
-        for name, words in rows.images():
-            with self.subTest(name):
-                volume, image = rows.spelled(name), rows.spelled(words)
-                self.assertEqual(fv.volume_normalise(volume), image)
-                self.assertEqual(fv.image_normalise(volume), image)
-                self.assertEqual(fv.volume_is_canonical(volume), name == words)
-                self.assertTrue(fv.volume_is_canonical(image))
-                self.assertIsNone(fv.volume_compare(volume, image))
-                self.assertEqual(fv.volume_digest(volume), fv.volume_digest(image))
-                self.assertEqual(fv.volume_extract(volume, 0), image)
+    def test_rejected(self) -> None:
+        empty = rows.spelled("empty")
+        calls = fv.volume_tree, fv.volume_tree_digests, fv.volume_digest, fv.volume_is_canonical, fv.volume_normalise
+        for row, data, result in rows.read("rejected"):
+            wanted = tuple(map(int, result.split()))
+            with self.subTest(row):
+                for call in calls:
+                    self.assertEqual(place(call, data), wanted)
+                for number in (0, 1, 2**64 - 1):
+                    self.assertEqual(place(fv.volume_extract, data, number), wanted)
+                for side, pair in enumerate(((data, empty), (empty, data))):
+                    self.assertEqual(place(fv.volume_compare, *pair), wanted)
+                    self.assertEqual(outcome(fv.volume_compare, *pair).input, side)
+
+    def test_cut_short(self) -> None:
+        for row, data, wanted in rows.read("accepted"):
+            whole = data[: int(wanted.split(",")[0])]
+            with self.subTest(row):
+                for size in range(len(whole) if len(whole) < MOST_CUT else 0):
+                    self.assertEqual(place(fv.volume_tree, whole[:size]), (1, size, 0))
+
+    def test_places_of_data(self) -> None:
+        for row, data, wanted in rows.read("data"):
+            number, start, end = map(int, wanted.split())
+            at, file = [(at, node) for at, node in enumerate(fv.volume_tree(data)) if node.depth == 1][number]
+            with self.subTest(row):
+                self.assertEqual((file.offset, file.offset + file.length), (start, end))
+                self.assertEqual(fv.volume_extract(data, at), data[start:end])
 
     def test_volumes_that_do_not_fit(self) -> None:
         for name, number, depth in map(rows.parts, rows.tables("library")["unfit"]):
@@ -159,64 +164,6 @@ class Volumes(unittest.TestCase):
                 self.assertEqual(it.name, uuid.UUID(bytes_le=stored) if any(stored) else None)
                 self.assertEqual((it.offset, it.attributes), (0, int.from_bytes(data[44:48], "little")))
 
-    def test_bodies(self) -> None:
-        for row in rows.tables("bodies")[""]:
-            wanted = written(*rows.parts(row)[2].partition(" ")[::2])
-            for data in rows.bodies(row):
-                with self.subTest(row):
-                    self.assertEqual(said.made_by("cells", data), wanted)
-                    cells, unfixed = place(fv.volume_cells, data), place(fv.volume_unfix, data)
-                    if not isinstance(cells, tuple):
-                        self.assertEqual(unfixed, data)
-                        self.check_headers(data, cells)
-                    else:
-                        # Only the fault that a file is fixed does not stop `unfix`.
-                        self.assertEqual(unfixed == cells, cells[0] != FIXED)
-
-    def check_headers(self, data: bytes, cells: list[fv.Cell]) -> None:
-        """Checks that valid files and pads have the fields of their headers."""
-        for it in cells:
-            if it.name is not None:
-                header = data[it.offset :][:24]
-                self.assertEqual((it.name.bytes_le, it.efi_type, it.attributes), (header[:16], header[18], header[19]))
-                self.assertEqual(it.header_length, 32 if header[19] & 1 else 24)
-
-    def test_many_files(self) -> None:
-        for count in range(301):
-            data = rows.full_volume(count)
-            self.assertEqual(fv.volume_normalise(data), data, count)
-            self.assertIs(fv.volume_is_canonical(data), True, count)
-
-    def test_replaced_bytes(self) -> None:
-        conditions: list[tuple[Callable[[bytes], bool], tuple[str, ...]]] = [(agree, IMAGES), (keeps, VOLUMES)]
-        for holds, names in conditions:
-            for name in names:
-                with self.subTest(name):
-                    wrong = [it.hex() for it in replaced(rows.spelled(name)) if not holds(it)]
-                    self.assertEqual(wrong, [])
-
-
-@needs_library
-class Others(unittest.TestCase):
-    """Dependency expressions, hand-off lists and parts of headers."""
-
-    def test_faults(self) -> None:
-        calls: dict[str, Callable[[bytes], object]] = {
-            "pei": lambda data: fv.depex_evaluate(data, fv.Phase.PEI),
-            "dxe": fv.depex_evaluate,
-            "hobs": fv.hobs_read,
-            "head": fv.header_read,
-        }
-        subjects = {"pei": 2, "dxe": 2, "hobs": 3, "head": 0}
-        for row in rows.tables("parts")[""]:
-            for kind, data, wanted in rows.rejected(row):
-                with self.subTest(row, size=len(data)):
-                    found = outcome(calls[kind], data)
-                    self.assertEqual(isinstance(found, fv.Fault), wanted is not None)
-                    if wanted is not None:
-                        self.assertEqual((found.code >> 8, found.number, found.offset), (subjects[kind], *wanted))
-                        self.assertEqual((found.depth, found.input), (0, 0))
-
     def test_values(self) -> None:
         a, b = uuid.UUID(bytes=b"\x0a" * 16), uuid.UUID(bytes=b"\x0b" * 16)
         installed: list[list[uuid.UUID]] = [[], [a], [b], [b, a]]
@@ -225,6 +172,47 @@ class Others(unittest.TestCase):
             with self.subTest(phase, words=words):
                 found = [fv.depex_evaluate(rows.spelled(words), phases[phase], it) for it in installed]
                 self.assertEqual(found, [values[it] for it in wanted.split()])
+
+    def test_replaced_bytes(self) -> None:
+        for name in REPLACED:
+            with self.subTest(name):
+                self.assertEqual([it.hex() for it in replaced(rows.spelled(name)) if not agree(it)], [])
+
+
+@needs_library
+class Inputs(unittest.TestCase):
+    """Made inputs."""
+
+    def test_lines(self) -> None:
+        """The rows of each made input are the lines that its maker gives."""
+        commands, tried = {"volume": "list", "image": "scan", "list": "hobs"}, 0
+        for number in range(MADE):
+            case = make_case(7, number)
+            if case.lines and not case.image:
+                tried += 1
+                with self.subTest(number):
+                    self.assertEqual(said.made_by(commands[case.kind], case.data), (0, said.text(case.lines)))
+        self.assertGreater(tried, MADE // 3)
+
+    def test_parts(self) -> None:
+        """The part of each row is in the canonical image, where the tree of the image has its row, and its digest
+        covers the part. A volume without an image has no digests, but bodies of sections are as stored."""
+        for name, data in made().items():
+            nodes, image = outcome(fv.volume_tree, data), outcome(fv.volume_normalise, data)
+            if isinstance(nodes, fv.Fault):
+                continue
+            with self.subTest(name):
+                is_held = [it.kind == fv.NodeKind.SECTION and it.content != fv.Content.BYTES for it in nodes]
+                if isinstance(image, fv.Fault):
+                    self.assertEqual(outcome(fv.volume_tree_digests, data), image)
+                    continue
+                parts = [image[it.offset : it.offset + it.length] for it in fv.volume_tree(image)]
+                self.assertTrue([fv.volume_extract(data, row) for row in range(len(nodes))] == parts)
+                digests = [None if it else hashlib.sha256(part).digest() for it, part in zip(is_held, parts)]
+                self.assertTrue([*fv.volume_tree_digests(data)] == digests)
+                self.assertEqual(fv.volume_digest(data), digests[0])
+                for row in (len(nodes), -1, 2**64 - 1):
+                    self.assertRaises(IndexError, fv.volume_extract, data, row)
 
 
 if __name__ == "__main__":

@@ -15,6 +15,7 @@ import unittest
 import zipfile
 from pathlib import Path
 
+import backend
 from tests import making
 from tests.checks import ROOT
 from tests.frame import LIBRARY, RoomCase, needs_library, needs_tool
@@ -23,9 +24,9 @@ FOLDER = ROOT / "python"
 COMMANDS = ("check", "diff", "map", "same", "sbom", "text", "unpack")
 LICENCE = "License: BSD-2-Clause-Patent"
 FIELDS = ("Metadata-Version: 2.1", "Name: libfv", "Author-email: ", "Requires-Python: >=3.10", LICENCE)
-PIP = {"PIP_DISABLE_PIP_VERSION_CHECK": "1", "PIP_NO_INDEX": "1", "PIP_NO_CACHE_DIR": "1"}
-# The variables of this process that would lead to the package of this repository, or to its library.
-OWN = ("PYTHONPATH", "PYTHONDONTWRITEBYTECODE", "LIBFV")
+# The variables of pip, and none of those that would lead to the package of this repository, or to its library.
+OUTSIDE = {"PIP_DISABLE_PIP_VERSION_CHECK": "1", "PIP_NO_INDEX": "1", "PIP_NO_CACHE_DIR": "1"}
+OUTSIDE |= dict.fromkeys(("PYTHONPATH", "PYTHONDONTWRITEBYTECODE", "LIBFV"), "")
 
 
 def has_pip() -> bool:
@@ -34,10 +35,10 @@ def has_pip() -> bool:
     return not any(it.returncode for it in runs)
 
 
-def build(folder: Path, backend: Path, env: dict[str, str]) -> subprocess.CompletedProcess[str]:
-    """Makes both files in a folder, with the variables of an environment."""
-    words = (sys.executable, "-B", backend / "backend.py", "build", folder)
-    return subprocess.run(words, env=env, capture_output=True, text=True, check=False)
+def build(folder: Path, source: Path, library: Path | str) -> subprocess.CompletedProcess[str]:
+    """Makes both files in a folder, with a library or without one."""
+    words = (sys.executable, "-B", source / "backend.py", "build", folder)
+    return subprocess.run(words, env={**os.environ, "LIBFV": str(library)}, capture_output=True, text=True)
 
 
 def library(machine: int, wide: int = 2, order: int = 1) -> bytes:
@@ -50,28 +51,18 @@ class Tags(unittest.TestCase):
     """The tag of a wheel names the machine of its library. A library without such a tag is rejected, and so is another
     file."""
 
-    def tag(self, data: bytes) -> str:
-        """Returns the tag of a wheel with a library, or the message if it has none."""
-        run = "import backend, sys\nprint(backend.tag(sys.stdin.buffer.read()))"
-        words = [sys.executable, "-B", "-c", run]
-        said = subprocess.run(words, input=data, capture_output=True, cwd=FOLDER, check=False)
-        return (said.stdout if not said.returncode else b"rejected: " + said.stderr).decode().strip()
-
     def test_machines(self) -> None:
-        for data, words in (
+        for data, tag in (
             (library(62), "py3-none-manylinux_2_17_x86_64"),
             (library(183), "py3-none-manylinux_2_17_aarch64"),
             (library(243), "py3-none-manylinux_2_17_riscv64"),
             (library(62)[:64], "py3-none-manylinux_2_5_x86_64"),
-            (library(3), "rejected: .*e_machine 3"),
-            (library(22), "rejected: .*e_machine 22"),
-            (library(0), "rejected: .*e_machine 0"),
-            (library(40, wide=1), "rejected: .*is not a 64-bit little-endian ELF file"),
-            (library(22, order=2), "rejected: .*is not a 64-bit little-endian ELF file"),
-            (b"\x7fELF\x02\x01", "rejected: .*is not a 64-bit little-endian ELF file"),
-            (b"", "rejected: .*is not a 64-bit little-endian ELF file"),
         ):
-            self.assertRegex(self.tag(data), f"^{words}")
+            self.assertEqual(backend.tag(data), tag)
+        for number in (3, 22, 0):
+            self.assertRaisesRegex(SystemExit, f"e_machine {number}", backend.tag, library(number))
+        for data in (library(40, wide=1), library(22, order=2), b"\x7fELF\x02\x01", b""):
+            self.assertRaisesRegex(SystemExit, "is not a 64-bit little-endian ELF file", backend.tag, data)
 
 
 @needs_library
@@ -83,7 +74,7 @@ class Wheel(RoomCase):
         super().setUpClass()
         for name in ("one", "two"):
             (cls.room / name).mkdir()
-            said = build(cls.room / name, FOLDER, {**os.environ, "LIBFV": str(LIBRARY)})
+            said = build(cls.room / name, FOLDER, LIBRARY)
             if said.returncode:
                 raise AssertionError(said.stderr)
         cls.wheel, cls.archive = (cls.room / "one" / it for it in said.stdout.split())
@@ -99,12 +90,7 @@ class Wheel(RoomCase):
     def run_outside(self, *words: str | Path, **env: str) -> str:
         """Runs a command without the package and the library of this repository. Returns what it writes, and fails if
         its status is not 0."""
-        bytecode = {"PYTHONPYCACHEPREFIX": str(self.room / "bytecode")}
-        clean = {name: it for name, it in os.environ.items() if name not in OWN}
-        more = {**clean, **PIP, **bytecode, **env}
-        run = subprocess.run(words, env=more, cwd=self.room, capture_output=True, text=True, check=False)
-        self.assertEqual(run.returncode, 0, f"{words}: {run.stdout[-3000:]}{run.stderr[-3000:]}")
-        return run.stdout
+        return self.runs(0, *words, env={**OUTSIDE, "PYTHONPYCACHEPREFIX": str(self.room / "bytecode"), **env})
 
     def test_bytes(self) -> None:
         for made in (self.wheel, self.archive):
@@ -129,8 +115,7 @@ class Wheel(RoomCase):
     def test_missing_library(self) -> None:
         # backend.py names the command that makes the library.
         shutil.copytree(FOLDER, self.room / "lone/python")
-        env = {name: it for name, it in os.environ.items() if name != "LIBFV"}
-        said = build(self.room, self.room / "lone/python", env)
+        said = build(self.room, self.room / "lone/python", "")
         self.assertNotEqual(said.returncode, 0)
         words = "libfv/build makes it.*Without the kit, install the wheel or the packages of a release"
         self.assertRegex(said.stderr, words)
@@ -143,7 +128,7 @@ class Wheel(RoomCase):
         paths = f"{ROOT}:{ROOT / 'crates/fv_run_tests/rows'}"
         # LIBFV names the library for the folder, and the archive contains it.
         for source, library, tests in (
-            (FOLDER, str(LIBRARY), ("test_package", "test_trees.Inputs")),
+            (FOLDER, str(LIBRARY), ("test_package", "test_rows.Inputs")),
             (self.archive, "", ("test_command",)),
         ):
             self.run_outside(*pip, "install", "--no-build-isolation", source, LIBFV=library)

@@ -21,6 +21,7 @@ import fv
 import rows
 from tests.checks import ROOT, read
 from tests.frame import LIBRARY, RoomCase, needs_library, needs_tool
+from tests.libfv.inputs import spelled
 from tests.python.outcomes import OF_IMAGE, OF_VOLUME, made, outcome, volume_of
 
 RUST = ROOT / "rust"
@@ -48,25 +49,17 @@ def is_new(major: int, minor: int) -> bool:
 def inputs() -> Iterator[bytes]:
     """Yields the made inputs, all inputs of the rows, and inputs with more rows than the first buffer has room for."""
     yield from made().values()
-    yield from map(rows.spelled, rows.WORDS)
+    yield from spelled()
     library = rows.tables("library")
     images = (row for name in library if name.endswith("images") for row in library[name])
     yield from (rows.spelled(row.partition(" -> ")[0]) for row in images)
-    yield from (data for row in rows.tables("bodies")[""] for data in rows.bodies(row))
     yield from (data for row in rows.tables("parts")[""] for _, data, _ in rows.rejected(row))
     yield from (rows.spelled(rows.parts(row)[1]) for row in library["values"])
-    yield from (data for table in rows.VOLUMES_READ for _, data, _ in rows.read(table))
-    yield from map(rows.spelled, (words for name, words, _ in unfixed() if name == "unfix"))
     for count in (1022, 1023, 1024, 1025, 3000):
         yield rows.full_volume(count)
         yield volume_of(b"\5\0\0\x19\x09\0\0\0" * count)
         yield rows.spelled("empty") * count
         yield rows.spelled("PHIT") + b"\xfe\xff\x08\0\0\0\0\0" * (count - 2) + b"\xff\xff\x08\0\0\0\0\0" + b"more"
-
-
-def unfixed() -> Iterator[tuple[str, str, str]]:
-    """Yields the rows of `unfix` whose input is bytes."""
-    return (it for it in map(rows.parts, rows.tables("unfix")[""]) if not it[1].startswith("'"))
 
 
 def comparisons() -> Iterator[tuple[bytes, bytes]]:
@@ -118,11 +111,6 @@ def debug(value: Any, is_option: bool = False) -> str:
     return f"Guid({value})" if isinstance(value, uuid.UUID) else str([*value] if isinstance(value, bytes) else value)
 
 
-def digest(value: bytes) -> str:
-    """Returns a digest as `Debug` of Rust shows it."""
-    return f"Digest({value.hex()})"
-
-
 def result_of(call: str, arguments: tuple[Any, ...]) -> str:
     """Returns the result of a call of the package as `Debug` of Rust shows it."""
     if call == "depex_evaluate":
@@ -134,13 +122,13 @@ def result_of(call: str, arguments: tuple[Any, ...]) -> str:
     except IndexError:
         return "Err(NoSuchRow)"
     if call == "volume_tree_digests":
-        rest = (f"Some({digest(it)})" if it else "None" for it in found)
+        rest = (f"Some(Digest({it.hex()}))" if it else "None" for it in found)
         return f"Ok([{', '.join(f'NodeDigest {{ digest: {it} }}' for it in rest)}])"
     if call == "depex_evaluate":
         return f"Ok({'Order' if found is None else found})"
     if call == "volume_compare":
         return f'Ok(Some("{found}"))' if found else "Ok(None)"
-    return f"Ok({digest(found) if call == 'volume_digest' else debug(found)})"
+    return f"Ok(Digest({found.hex()}))" if call == "volume_digest" else f"Ok({debug(found)})"
 
 
 class Types(unittest.TestCase):

@@ -8,8 +8,9 @@ import functools
 import glob
 import os
 import re
-from collections.abc import Iterable, Iterator
+from collections.abc import Callable, Iterable, Iterator
 from dataclasses import dataclass
+from typing import TypeVar
 
 from tests.checks import read
 
@@ -17,6 +18,7 @@ from tests.checks import read
 # in this file.
 Place = tuple[str, str]
 Key = tuple[str, str, str]
+T = TypeVar("T")
 
 NAME = r"[^\W\d][\w\-']*"
 INNER = "inner."
@@ -44,8 +46,7 @@ FUNCTION = re.compile(r'(?m)^([ \t]*)(pub(?:\([a-z]+\))? )?(?:const )?(extern "C
 
 @dataclass(frozen=True)
 class Clause:
-    """A clause of a function, which is an `ensures` or a `requires`. The comment of a clause that begins a block is
-    also the comment of the block's other clauses."""
+    """An `ensures` or a `requires`. The comment of a clause that begins a block is also for the block's others."""
 
     name: str
     comment: str
@@ -56,8 +57,7 @@ class Clause:
 
 @dataclass(frozen=True)
 class Call:
-    """A function: its file, the offset of its line, its type or trait, its name, whether it is a private method,
-    whether it is for C, and its clauses."""
+    """A function, with the offset of its line. `owner` is its type or trait, and `is_inner` marks a private method."""
 
     path: str
     start: int
@@ -70,7 +70,7 @@ class Call:
 
 @dataclass(frozen=True)
 class Imports:
-    """The names that a file imports, with their meaning: names of definitions, and names of modules."""
+    """The names of definitions and of modules that a file imports, with their meaning."""
 
     names: dict[str, Key]
     modules: dict[str, Place]
@@ -78,24 +78,16 @@ class Imports:
 
 @dataclass(frozen=True)
 class Entry:
-    """The definitions under one comment, and this comment."""
+    """The definitions under one comment, and this comment, or those in one paragraph, and its text without comments."""
 
     words: list[str]
-    comment: str
-
-
-@dataclass(frozen=True)
-class Group:
-    """Definitions in one paragraph, and the paragraph without its comments."""
-
-    words: list[str]
-    text: str
+    comment: str = ""
+    text: str = ""
 
 
 @dataclass(frozen=True)
 class Source:
-    """A file of a crate's code: its path, its module, its text, the names that the crate exports, and whether the
-    module is public."""
+    """A file of a crate's code, the names that the crate exports, and whether the module is public."""
 
     path: str
     module: str
@@ -131,13 +123,7 @@ def imports(text: str) -> Imports:
 
 def paragraphs(text: str) -> list[str]:
     """Returns the definitions of a specs file, each with its comment. A mutual block is one paragraph."""
-    found: list[str] = []
-    for part in text.rstrip("\n").split("\n\n"):
-        if found and part.startswith("  "):
-            found[-1] += "\n\n" + part
-        else:
-            found.append(part)
-    return found
+    return re.split(r"\n\n(?!  )", text.rstrip("\n"))
 
 
 def entries(paragraph: str) -> list[Entry]:
@@ -163,17 +149,22 @@ def entries(paragraph: str) -> list[Entry]:
     return found
 
 
-def defined(paragraph: str) -> list[str]:
-    """Returns the names of the definitions in a paragraph."""
-    return [word for entry in entries(paragraph) for word in entry.words]
+def reached(first: Iterable[T], after: Callable[[T], Iterable[T]]) -> set[T]:
+    """Returns some things, and all things that come after them."""
+    found, left = set[T](), [*first]
+    while left:
+        it = left.pop()
+        if it not in found:
+            found.add(it)
+            left += after(it)
+    return found
 
 
 class Words:
     """The definitions of all crates, and the definitions that each of them cites."""
 
     def __init__(self) -> None:
-        """Reads all files of definitions."""
-        self.groups: dict[Key, Group] = {}
+        self.groups: dict[Key, Entry] = {}
         self.imports: dict[Place, Imports] = {}
         self.private: set[Place] = set()
         for path in sorted(glob.glob("crates/*/specs/**/*.antt", recursive=True)):
@@ -185,9 +176,9 @@ class Words:
             if module.startswith(INNER):
                 self.private.add((crate, module))
             for paragraph in paragraphs(text):
-                words = defined(paragraph)
+                words = [word for entry in entries(paragraph) for word in entry.words]
                 for word in words:
-                    self.groups[crate, module, word] = Group(words, re.sub(r"(?m)--.*$", "", paragraph))
+                    self.groups[crate, module, word] = Entry(words, text=re.sub(r"(?m)--.*$", "", paragraph))
 
     def cited(self, text: str, known: Imports, own: Place | None = None) -> set[Key]:
         """Returns the definitions that a text cites, by the imports of its file, and by the definitions of that file if
@@ -206,18 +197,12 @@ class Words:
 
     def closure(self, first: Iterable[Key]) -> set[Key]:
         """Returns some definitions, and all definitions that they reach."""
-        reached: set[Key] = set()
-        left = list(first)
-        while left:
-            key = left.pop()
-            if key in reached:
-                continue
-            reached.add(key)
-            crate, module, _ = key
-            group = self.groups[key]
-            left += [(crate, module, word) for word in group.words]
-            left += self.cited(group.text, self.imports[crate, module], (crate, module))
-        return reached
+
+        def after(key: Key) -> set[Key]:
+            place, group = key[:2], self.groups[key]
+            return self.cited(group.text, self.imports[place], place) | {(*place, word) for word in group.words}
+
+        return reached(first, after)
 
 
 def block(text: str, start: int) -> int:
@@ -230,8 +215,7 @@ def block(text: str, start: int) -> int:
 
 
 def contract(text: str, code: str, start: int) -> list[Clause]:
-    """Returns the clauses of the function whose name ends at `start`. `code` is the text with blanks in place of its
-    comments."""
+    """Returns the clauses of the function whose name ends at `start`. `code` is the text without comments."""
     found: list[Clause] = []
     while True:
         signature, match = SIGNATURE.match(code, start), CLAUSE.match(code, start)
@@ -247,8 +231,7 @@ def contract(text: str, code: str, start: int) -> list[Clause]:
 
 
 def owner(code: str, start: int) -> tuple[str, bool]:
-    """Returns the type or the trait whose block contains a place of some code, and whether it is the block of a
-    trait."""
+    """Returns the type or the trait whose block contains a place of some code, and whether it is a trait's."""
     heads = re.findall(r"(?m)^(?:impl\b(?:<[^\n]*?>)?(?:( [^\n]*?) for)? (\w+)|pub trait (\w+))", code[:start])
     trait, name, own_trait = heads[-1] if heads else ("", "", "")
     return name or own_trait, bool(trait or own_trait)
@@ -270,8 +253,7 @@ def sources(crate: str) -> Iterator[Source]:
 
 
 def calls(crate: str) -> Iterator[Call]:
-    """Returns the public functions of a crate, in the order of its files. All functions of the program count as
-    public."""
+    """Returns the public functions of a crate, or all functions of the program, in the order of its files."""
     for source in sources(crate):
         uses = r"(?m)^[ \t]*(?:ghost )?use [^;]*;"
         code = blank(re.sub(uses, lambda match: re.sub(r"[^\n]", " ", match[0]), source.text))

@@ -21,12 +21,7 @@ fn files(image: &[u8], header: &Header) -> Result<String, fv::Error> {
 /// Returns the text of the last line, which reports whether all volumes of the image are canonical.
 fn verdict(image: &[u8]) -> Result<String, fv::Error> {
     let is_canonical = fv::image::normalise(image)? == image;
-    Ok(if is_canonical {
-        "canonical"
-    } else {
-        "not canonical"
-    }
-    .to_owned())
+    Ok(if is_canonical { "canonical" } else { "not canonical" }.to_owned())
 }
 
 /// Returns the text of a result: its value, or the meaning of the fault.
@@ -43,17 +38,11 @@ fn run() -> Result<(), Box<dyn Error>> {
         (Some(path), None) => path,
         _ => return Err("usage: volumes IMAGE".into()),
     };
-    let image = std::fs::read(&path)
-        .map_err(|_| format!("volumes: cannot read {}", path.to_string_lossy()))?;
+    let image = std::fs::read(&path).map_err(|_| format!("volumes: cannot read {}", path.to_string_lossy()))?;
     let headers = fv::image::scan(&image).map_err(|error| format!("volumes: {error}"))?;
     let mut out = stdout().lock();
     for header in &headers {
-        writeln!(
-            out,
-            "volume at {}: {}",
-            header.offset(),
-            text(files(&image, header))
-        )?;
+        writeln!(out, "volume at {}: {}", header.offset(), text(files(&image, header)))?;
     }
     writeln!(out, "{}", text(verdict(&image)))?;
     Ok(())

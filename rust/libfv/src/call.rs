@@ -6,7 +6,6 @@ use crate::row::Row;
 use crate::Error;
 use libfv_sys as sys;
 use std::ffi::c_void;
-use std::mem::MaybeUninit;
 
 /// The number of rows that the first buffer has room for. If there are more, the call is repeated.
 pub(crate) const ROOM: usize = 1024;
@@ -49,14 +48,8 @@ pub(crate) unsafe fn filled<T>(
 }
 
 /// A call that writes rows about an input.
-type RowsCall<R> = unsafe extern "C" fn(
-    *const c_void,
-    usize,
-    *mut R,
-    usize,
-    *mut usize,
-    *mut sys::fv_fault,
-) -> sys::fv_result;
+type RowsCall<R> =
+    unsafe extern "C" fn(*const c_void, usize, *mut R, usize, *mut usize, *mut sys::fv_fault) -> sys::fv_result;
 
 /// Returns the rows that a call writes about an input.
 pub(crate) fn rows<T: Row>(call: RowsCall<T::Raw>, input: &[u8]) -> Result<Vec<T>, Error> {
@@ -64,40 +57,24 @@ pub(crate) fn rows<T: Row>(call: RowsCall<T::Raw>, input: &[u8]) -> Result<Vec<T
     // its structure, and the call writes what fv.h says.
     unsafe {
         filled(ROOM, |buffer: *mut T, room, count, fault| {
-            call(
-                address(input),
-                input.len(),
-                buffer.cast(),
-                room,
-                count,
-                fault,
-            )
+            call(address(input), input.len(), buffer.cast(), room, count, fault)
         })
     }
 }
 
 /// A call that writes one value about an input.
-type ValueCall<T> =
-    unsafe extern "C" fn(*const c_void, usize, *mut T, *mut sys::fv_fault) -> sys::fv_result;
+type ValueCall<T> = unsafe extern "C" fn(*const c_void, usize, *mut T, *mut sys::fv_fault) -> sys::fv_result;
 
 /// Returns the value that a call writes about an input.
-pub(crate) fn value<T>(call: ValueCall<T>, input: &[u8]) -> Result<T, Error> {
-    let (mut found, mut fault) = (MaybeUninit::uninit(), sys::fv_fault::default());
+pub(crate) fn value<T: Default>(call: ValueCall<T>, input: &[u8]) -> Result<T, Error> {
+    let (mut found, mut fault) = (T::default(), sys::fv_fault::default());
     // SAFETY: the input is a slice, and the results are variables of this function.
-    let result = unsafe { call(address(input), input.len(), found.as_mut_ptr(), &mut fault) };
-    check(result, fault)?;
-    // SAFETY: a call that returns 0 has written its value.
-    Ok(unsafe { found.assume_init() })
+    let result = unsafe { call(address(input), input.len(), &mut found, &mut fault) };
+    check(result, fault).map(|()| found)
 }
 
 /// A call that writes as many bytes as its input has.
-type ImageCall = unsafe extern "C" fn(
-    *const c_void,
-    usize,
-    *mut c_void,
-    usize,
-    *mut sys::fv_fault,
-) -> sys::fv_result;
+type ImageCall = unsafe extern "C" fn(*const c_void, usize, *mut c_void, usize, *mut sys::fv_fault) -> sys::fv_result;
 
 /// Returns the bytes that a call writes, which are as many as the input has.
 pub(crate) fn image(call: ImageCall, input: &[u8]) -> Result<Vec<u8>, Error> {

@@ -3,7 +3,7 @@
 
 use crate::call::address;
 use crate::error::check;
-use crate::row::unknown;
+use crate::row::kinds;
 use crate::{Error, Guid};
 use libfv_sys as sys;
 
@@ -11,20 +11,20 @@ use libfv_sys as sys;
 #[derive(Clone, Copy, Debug, PartialEq, Eq, Hash)]
 pub enum Phase {
     /// PEI.
-    Pei,
+    Pei = sys::FV_PHASE_PEI as isize,
     /// DXE and MM.
-    Dxe,
+    Dxe = sys::FV_PHASE_DXE as isize,
 }
 
-/// The value of a dependency expression.
-#[derive(Clone, Copy, Debug, PartialEq, Eq, Hash)]
-pub enum Truth {
+kinds! {
+    /// The value of a dependency expression.
+    Truth, "truth value":
     /// The expression is false.
-    False,
+    False = FV_DEPEX_FALSE,
     /// The expression is true.
-    True,
+    True = FV_DEPEX_TRUE,
     /// The expression is BEFORE or AFTER, which only order a driver and have no truth value.
-    Order,
+    Order = FV_DEPEX_ORDER,
 }
 
 /// Evaluates the dependency expression with which the bytes begin, as if exactly these GUIDs were
@@ -33,13 +33,11 @@ pub enum Truth {
 /// ```
 /// use fv::depex::{evaluate, Phase, Truth};
 ///
-/// # fn main() -> Result<(), fv::Error> {
 /// let guid = fv::Guid::from_bytes_le([10; 16]);
 /// let expression = [&[2][..], &guid.to_bytes_le(), &[5, 8]].concat(); // PUSH guid NOT END
 /// assert_eq!(evaluate(&expression, Phase::Dxe, &[])?, Truth::True);
 /// assert_eq!(evaluate(&expression, Phase::Dxe, &[guid])?, Truth::False);
-/// # Ok(())
-/// # }
+/// # Ok::<(), fv::Error>(())
 /// ```
 ///
 /// # Errors
@@ -47,10 +45,6 @@ pub enum Truth {
 /// [`Error::Rejected`] with the first fault, whose kind is one of the `Depex..` of
 /// [`FaultKind`](crate::FaultKind), or [`Error::OutOfMemory`].
 pub fn evaluate(expression: &[u8], phase: Phase, installed: &[Guid]) -> Result<Truth, Error> {
-    let phase = match phase {
-        Phase::Pei => sys::FV_PHASE_PEI,
-        Phase::Dxe => sys::FV_PHASE_DXE,
-    };
     let (mut value, mut fault) = (sys::FV_DEPEX_FALSE, sys::fv_fault::default());
     // SAFETY: the expression and the GUIDs are slices, a Guid has the layout of fv_guid, and the
     // results are variables of this function.
@@ -58,7 +52,7 @@ pub fn evaluate(expression: &[u8], phase: Phase, installed: &[Guid]) -> Result<T
         sys::fv_depex_evaluate(
             address(expression),
             expression.len(),
-            phase,
+            phase as u32,
             installed.as_ptr().cast(),
             installed.len(),
             &mut value,
@@ -66,10 +60,5 @@ pub fn evaluate(expression: &[u8], phase: Phase, installed: &[Guid]) -> Result<T
         )
     };
     check(result, fault)?;
-    Ok(match value {
-        sys::FV_DEPEX_FALSE => Truth::False,
-        sys::FV_DEPEX_TRUE => Truth::True,
-        sys::FV_DEPEX_ORDER => Truth::Order,
-        _ => unknown("truth value", value),
-    })
+    Ok(Truth::of(value))
 }

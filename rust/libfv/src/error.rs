@@ -10,7 +10,8 @@ use std::fmt;
 /// Defines [`FaultKind`], with the result of `fv.h` for each variant.
 macro_rules! fault_kinds {
     ($($(#[$attribute:meta])* $name:ident = $result:ident,)*) => {
-        /// The reason why an input is rejected. `docs/FAULTS.md` in the repository explains every kind.
+        /// The reason why an input is rejected. `docs/FAULTS.md` in the repository explains every
+        /// kind.
         ///
         /// Kinds of volumes and images have no prefix. The kinds that begin with `Depex` belong to
         /// dependency expressions, and the kinds that begin with `Hob` to hand-off lists.
@@ -137,44 +138,30 @@ row! {
     /// The first fault of an input, with its place.
     ///
     /// ```
-    /// # include!(concat!(env!("CARGO_MANIFEST_DIR"), "/tests/sample/volumes.rs"));
-    /// # fn main() {
-    /// # let volume = volume();
+    /// # let (volume, empty) = include!(concat!(env!("CARGO_MANIFEST_DIR"), "/tests/sample/volumes.rs"));
     /// let error = fv::volume::tree(&volume[..100]).unwrap_err();
     /// let fault = error.fault().unwrap();
     /// assert_eq!(fault.kind(), fv::FaultKind::Truncated);
     /// assert_eq!((fault.offset(), fault.depth(), fault.input()), (100, 0, 0));
     /// assert_eq!(fault.to_string(), "the bytes end before the volume does (fault 1) at offset 100");
-    /// # }
     /// ```
-    Fault(fv_fault) { kind, offset, depth, input }
+    Fault(fv_fault), it {
+        /// Returns the kind of the fault.
+        kind: FaultKind = FaultKind::of(it.0.result),
+        /// Returns the offset in bytes from the first byte of the input.
+        offset: usize = it.0.offset as usize,
+        /// Returns the number of groups and opened volumes around the fault, 0 to 8.
+        depth: usize = it.0.depth as usize,
+        /// Returns which input has the fault: 1 for the second input of
+        /// [`volume::compare`](crate::volume::compare), otherwise 0.
+        input: usize = it.0.input as usize,
+    }
 }
 
 impl Fault {
     /// Returns the fault that a call has written, or `None` if it has written zeros.
     pub(crate) fn of(raw: sys::fv_fault) -> Option<Fault> {
         (raw.result != sys::FV_OK).then_some(Fault(raw))
-    }
-
-    /// Returns the kind of the fault.
-    pub fn kind(&self) -> FaultKind {
-        FaultKind::of(self.0.result)
-    }
-
-    /// Returns the offset in bytes from the first byte of the input.
-    pub fn offset(&self) -> usize {
-        self.0.offset as usize
-    }
-
-    /// Returns the number of groups and opened volumes around the fault, 0 to 8.
-    pub fn depth(&self) -> usize {
-        self.0.depth as usize
-    }
-
-    /// Returns which input has the fault: 1 for the second input of
-    /// [`volume::compare`](crate::volume::compare), otherwise 0.
-    pub fn input(&self) -> usize {
-        self.0.input as usize
     }
 }
 

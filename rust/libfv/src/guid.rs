@@ -1,6 +1,7 @@
 // SPDX-License-Identifier: BSD-2-Clause-Patent
 //! GUIDs.
 
+use libfv_sys as sys;
 use std::error;
 use std::fmt;
 use std::str::FromStr;
@@ -11,12 +12,10 @@ use std::str::FromStr;
 /// GUIDs are ordered by their bytes in a volume.
 ///
 /// ```
-/// # fn main() -> Result<(), fv::ParseGuidError> {
 /// let guid: fv::Guid = "8c8ce578-8a3d-4f1c-9935-896185c32dd3".parse()?;
 /// assert_eq!(guid.to_bytes_le()[..4], [0x78, 0xe5, 0x8c, 0x8c]);
 /// assert_eq!(guid.to_string(), "8c8ce578-8a3d-4f1c-9935-896185c32dd3");
-/// # Ok(())
-/// # }
+/// # Ok::<(), fv::ParseGuidError>(())
 /// ```
 ///
 /// The crate `uuid` has functions with the same names, so `Uuid::from_bytes_le(guid.to_bytes_le())`
@@ -28,12 +27,12 @@ pub struct Guid([u8; 16]);
 // The calls read a slice of GUIDs as an array of fv_guid.
 const _: () = {
     use std::mem::{align_of, size_of};
-    assert!(size_of::<Guid>() == size_of::<libfv_sys::fv_guid>());
-    assert!(align_of::<Guid>() == align_of::<libfv_sys::fv_guid>());
+    assert!(size_of::<Guid>() == size_of::<sys::fv_guid>());
+    assert!(align_of::<Guid>() == align_of::<sys::fv_guid>());
 };
 
-/// The place in a volume of each byte of the text, in the order of the text.
-const PLACES: [usize; 16] = [3, 2, 1, 0, 5, 4, 7, 6, 8, 9, 10, 11, 12, 13, 14, 15];
+/// The number of characters of the text of a GUID, without the NUL that the library adds.
+const CHARACTERS: usize = sys::FV_GUID_TEXT_SIZE as usize - 1;
 
 impl Guid {
     /// Makes a GUID from its bytes in a volume. The first three fields have their least significant
@@ -51,13 +50,12 @@ impl Guid {
 
 impl fmt::Display for Guid {
     fn fmt(&self, f: &mut fmt::Formatter<'_>) -> fmt::Result {
-        for (number, &place) in PLACES.iter().enumerate() {
-            if matches!(number, 4 | 6 | 8 | 10) {
-                f.write_str("-")?;
-            }
-            write!(f, "{:02x}", self.0[place])?;
-        }
-        Ok(())
+        let mut text = [0; CHARACTERS + 1];
+        let guid = sys::fv_guid { bytes: self.0 };
+        // SAFETY: one pointer leads to a GUID, and the other to a buffer with this many bytes.
+        let result = unsafe { sys::fv_guid_text(&guid, text.as_mut_ptr().cast(), text.len()) };
+        assert_eq!(result, sys::FV_OK, "libfv has a text for each GUID");
+        f.write_str(&String::from_utf8_lossy(&text[..CHARACTERS]))
     }
 }
 
@@ -85,17 +83,13 @@ impl FromStr for Guid {
     type Err = ParseGuidError;
 
     fn from_str(text: &str) -> Result<Guid, ParseGuidError> {
-        let wrong = ParseGuidError {};
-        let groups: Vec<&str> = text.split('-').collect();
-        if !groups.iter().map(|it| it.len()).eq([8, 4, 4, 4, 12]) {
-            return Err(wrong);
+        let mut guid = sys::fv_guid::default();
+        // SAFETY: one pointer leads to this many bytes, and the other to a GUID.
+        let result = unsafe { sys::fv_guid_parse(text.as_ptr().cast(), text.len(), &mut guid) };
+        // The library reads up to a NUL, after which more characters may follow.
+        match result {
+            sys::FV_OK if text.len() == CHARACTERS => Ok(Guid(guid.bytes)),
+            _ => Err(ParseGuidError {}),
         }
-        let digits = groups.concat();
-        let mut bytes = [0; 16];
-        for (place, pair) in PLACES.iter().zip(digits.as_bytes().chunks(2)) {
-            let value = |digit: u8| (digit as char).to_digit(16).ok_or(wrong);
-            bytes[*place] = (value(pair[0])? * 16 + value(pair[1])?) as u8;
-        }
-        Ok(Guid(bytes))
     }
 }

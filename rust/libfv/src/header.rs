@@ -9,57 +9,28 @@ use std::ops::Range;
 
 row! {
     /// The header of a volume, as [`read`] and [`image::scan`](crate::image::scan) return it.
-    Header(fv_header) {
-        offset, length, first_file, header_length, attributes, file_system, erased_byte, name,
-    }
-}
-
-impl Header {
-    /// Returns the offset of the volume in bytes from the first byte of the input. [`read`] returns
-    /// a header with offset 0.
-    pub fn offset(&self) -> usize {
-        self.0.offset as usize
-    }
-
-    /// Returns the number of bytes of the volume, `FvLength`.
-    pub fn length(&self) -> usize {
-        self.0.length as usize
-    }
-
-    /// Returns the range of the volume's bytes in the input.
-    pub fn range(&self) -> Range<usize> {
-        range(self.0.offset, self.0.length)
-    }
-
-    /// Returns the offset from the volume's first byte at which its first file may begin.
-    pub fn first_file(&self) -> usize {
-        self.0.first_file as usize
-    }
-
-    /// Returns `HeaderLength`, in bytes.
-    pub fn header_length(&self) -> usize {
-        self.0.header_length as usize
-    }
-
-    /// Returns `Attributes` of the volume.
-    pub fn attributes(&self) -> u32 {
-        self.0.attributes
-    }
-
-    /// Returns the version of the file system: 2 for FFS2, 3 for FFS3.
-    pub fn file_system(&self) -> u32 {
-        self.0.file_system
-    }
-
-    /// Returns the value of an erased byte, 0 or 255.
-    pub fn erased_byte(&self) -> u8 {
-        narrow(self.0.erased_byte, "erased byte")
-    }
-
-    /// Returns `FvName` of the extended header. Returns `None` if the volume has no extended
-    /// header, or if `FvName` is 16 zeros.
-    pub fn name(&self) -> Option<Guid> {
-        guid_or_none(self.0.name)
+    Header(fv_header), it {
+        /// Returns the offset of the volume in bytes from the first byte of the input. [`read`]
+        /// returns a header with offset 0.
+        offset: usize = it.0.offset as usize,
+        /// Returns the number of bytes of the volume, `FvLength`.
+        length: usize = it.0.length as usize,
+        /// Returns the offset from the volume's first byte at which its first file may begin.
+        first_file: usize = it.0.first_file as usize,
+        /// Returns `HeaderLength`, in bytes.
+        header_length: usize = it.0.header_length as usize,
+        /// Returns `Attributes` of the volume.
+        attributes: u32 = it.0.attributes,
+        /// Returns the version of the file system: 2 for FFS2, 3 for FFS3.
+        file_system: u32 = it.0.file_system,
+        /// Returns the value of an erased byte, 0 or 255.
+        erased_byte: u8 = narrow(it.0.erased_byte, "erased byte"),
+        /// Returns `FvName` of the extended header. Returns `None` if the volume has no extended
+        /// header, or if `FvName` is 16 zeros.
+        name: Option<Guid> = guid_or_none(it.0.name),
+    } and {
+        /// Returns the range of the volume's bytes in the input.
+        range: Range<usize> = range(it.0.offset, it.0.length),
     }
 }
 
@@ -70,13 +41,10 @@ impl Header {
 /// [`volume`](crate::volume) do.
 ///
 /// ```
-/// # include!(concat!(env!("CARGO_MANIFEST_DIR"), "/tests/sample/volumes.rs"));
-/// # fn main() -> Result<(), fv::Error> {
-/// # let volume = volume();
+/// # let (volume, empty) = include!(concat!(env!("CARGO_MANIFEST_DIR"), "/tests/sample/volumes.rs"));
 /// let header = fv::header::read(&volume)?;
 /// assert_eq!((header.length(), header.first_file(), header.file_system()), (128, 72, 2));
-/// # Ok(())
-/// # }
+/// # Ok::<(), fv::Error>(())
 /// ```
 ///
 /// # Errors

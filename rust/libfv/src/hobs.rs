@@ -11,32 +11,21 @@ const TYPES_WITH_VOLUME: [u32; 2] = [5, 9];
 
 row! {
     /// A block of a hand-off list.
-    Hob(fv_hob) { volume_base, volume_length, hob_type, hob_length }
+    Hob(fv_hob), it {
+        /// Returns the address in memory of the volume that an FV or FV2 block describes. Returns
+        /// `None` for other blocks.
+        volume_base: Option<u64> = it.has_volume().then_some(it.0.volume_base),
+        /// Returns the number of bytes of the volume that an FV or FV2 block describes. Returns
+        /// `None` for other blocks.
+        volume_length: Option<u64> = it.has_volume().then_some(it.0.volume_length),
+        /// Returns `HobType`.
+        hob_type: u16 = narrow(it.0.hob_type, "HobType"),
+        /// Returns `HobLength`, the number of bytes of the block.
+        hob_length: u16 = narrow(it.0.hob_length, "HobLength"),
+    }
 }
 
 impl Hob {
-    /// Returns `HobType`.
-    pub fn hob_type(&self) -> u16 {
-        narrow(self.0.hob_type, "HobType")
-    }
-
-    /// Returns `HobLength`, the number of bytes of the block.
-    pub fn hob_length(&self) -> u16 {
-        narrow(self.0.hob_length, "HobLength")
-    }
-
-    /// Returns the address in memory of the volume that an FV or FV2 block describes. Returns
-    /// `None` for other blocks.
-    pub fn volume_base(&self) -> Option<u64> {
-        self.has_volume().then_some(self.0.volume_base)
-    }
-
-    /// Returns the number of bytes of the volume that an FV or FV2 block describes. Returns `None`
-    /// for other blocks.
-    pub fn volume_length(&self) -> Option<u64> {
-        self.has_volume().then_some(self.0.volume_length)
-    }
-
     /// Returns whether the block describes a volume.
     fn has_volume(&self) -> bool {
         TYPES_WITH_VOLUME.contains(&self.0.hob_type)
@@ -70,7 +59,6 @@ impl HobList {
 /// Reads the hand-off list with which the bytes begin. Bytes after its end block are not read.
 ///
 /// ```
-/// # fn main() -> Result<(), fv::Error> {
 /// let mut bytes = vec![0; 70];
 /// bytes[..4].copy_from_slice(&[1, 0, 56, 0]); // a hand-off information table
 /// bytes[56..60].copy_from_slice(&[0xff, 0xff, 8, 0]); // the end of the list
@@ -78,8 +66,7 @@ impl HobList {
 /// assert_eq!(list.length(), 64);
 /// let types: Vec<u16> = list.blocks().iter().map(|it| it.hob_type()).collect();
 /// assert_eq!(types, [1, 0xffff]);
-/// # Ok(())
-/// # }
+/// # Ok::<(), fv::Error>(())
 /// ```
 ///
 /// # Errors

@@ -10,51 +10,34 @@ use std::ops::Range;
 
 row! {
     /// A volume of an image, and the result of its check. [`check`] returns these rows.
-    VolumeCheck(fv_volume_check) { offset, length, fault, is_canonical }
-}
-
-impl VolumeCheck {
-    /// Returns the offset of the volume in bytes from the first byte of the image.
-    pub fn offset(&self) -> usize {
-        self.0.offset as usize
-    }
-
-    /// Returns the number of bytes of the volume, `FvLength`.
-    pub fn length(&self) -> usize {
-        self.0.length as usize
-    }
-
-    /// Returns the range of the volume's bytes in the image.
-    pub fn range(&self) -> Range<usize> {
-        range(self.0.offset, self.0.length)
-    }
-
-    /// Returns the fault with which the volume is rejected, with its offset in the image. Returns
-    /// `None` if the volume is accepted.
-    pub fn fault(&self) -> Option<Fault> {
-        Fault::of(self.0.fault)
-    }
-
-    /// Returns whether the volume is accepted and is its own canonical image.
-    pub fn is_canonical(&self) -> bool {
-        self.0.canonical == 1
+    VolumeCheck(fv_volume_check), it {
+        /// Returns the offset of the volume in bytes from the first byte of the image.
+        offset: usize = it.0.offset as usize,
+        /// Returns the number of bytes of the volume, `FvLength`.
+        length: usize = it.0.length as usize,
+        /// Returns the fault with which the volume is rejected, with its offset in the image.
+        /// Returns `None` if the volume is accepted.
+        fault: Option<Fault> = Fault::of(it.0.fault),
+        /// Returns whether the volume is accepted and is its own canonical image.
+        is_canonical: bool = it.0.canonical == 1,
+    } and {
+        /// Returns the range of the volume's bytes in the image.
+        range: Range<usize> = range(it.0.offset, it.0.length),
     }
 }
 
 /// Finds the volumes in an image, and returns their headers in the order of their offsets.
 ///
 /// ```
-/// # include!(concat!(env!("CARGO_MANIFEST_DIR"), "/tests/sample/volumes.rs"));
-/// # fn main() -> Result<(), fv::Error> {
-/// let image = [vec![0xff; 64], volume(), volume()].concat();
+/// # let (volume, empty) = include!(concat!(env!("CARGO_MANIFEST_DIR"), "/tests/sample/volumes.rs"));
+/// let image = [vec![0xff; 64], volume.clone(), volume].concat();
 /// let headers = fv::image::scan(&image)?;
 /// for header in &headers {
 ///     let volume = &image[header.range()];
 ///     println!("{}: {} rows", header.offset(), fv::volume::tree(volume)?.len());
 /// }
 /// assert_eq!(headers.iter().map(|it| it.offset()).collect::<Vec<_>>(), [64, 192]);
-/// # Ok(())
-/// # }
+/// # Ok::<(), fv::Error>(())
 /// ```
 ///
 /// # Errors
@@ -68,9 +51,8 @@ pub fn scan(image: &[u8]) -> Result<Vec<Header>, Error> {
 /// rejected volume does not stop the check of the others.
 ///
 /// ```
-/// # include!(concat!(env!("CARGO_MANIFEST_DIR"), "/tests/sample/volumes.rs"));
-/// # fn main() -> Result<(), fv::Error> {
-/// let mut image = empty().repeat(2);
+/// # let (volume, empty) = include!(concat!(env!("CARGO_MANIFEST_DIR"), "/tests/sample/volumes.rs"));
+/// let mut image = empty.repeat(2);
 /// image[128 + 72] = 0; // a byte of the second volume that should be erased
 /// let checks = fv::image::check(&image)?;
 /// for check in &checks {
@@ -81,8 +63,7 @@ pub fn scan(image: &[u8]) -> Result<Vec<Header>, Error> {
 /// }
 /// assert!(checks[0].is_canonical());
 /// assert_eq!(checks[1].fault().unwrap().offset(), 128 + 72);
-/// # Ok(())
-/// # }
+/// # Ok::<(), fv::Error>(())
 /// ```
 ///
 /// # Errors
@@ -97,15 +78,12 @@ pub fn check(image: &[u8]) -> Result<Vec<VolumeCheck>, Error> {
 /// All other bytes are kept.
 ///
 /// ```
-/// # include!(concat!(env!("CARGO_MANIFEST_DIR"), "/tests/sample/volumes.rs"));
-/// # fn main() -> Result<(), fv::Error> {
-/// # let volume = volume();
+/// # let (volume, empty) = include!(concat!(env!("CARGO_MANIFEST_DIR"), "/tests/sample/volumes.rs"));
 /// let image = [&[1, 2, 3, 4, 5, 6, 7, 8], &volume[..]].concat();
 /// let rebuilt = fv::image::normalise(&image)?;
 /// assert_eq!(rebuilt[..8], image[..8]);
 /// assert_eq!(rebuilt[8..], fv::volume::normalise(&volume)?);
-/// # Ok(())
-/// # }
+/// # Ok::<(), fv::Error>(())
 /// ```
 ///
 /// # Errors

@@ -25,24 +25,6 @@
 //! | Is a dependency expression true? | [`depex::evaluate`] |
 //! | Which blocks does a hand-off list have? | [`hobs::read`] |
 //!
-//! ```
-//! # include!(concat!(env!("CARGO_MANIFEST_DIR"), "/tests/sample/volumes.rs"));
-//! use fv::volume::NodeKind;
-//!
-//! # fn main() -> Result<(), fv::Error> {
-//! # let image = [vec![0xff; 64], volume()].concat();
-//! for header in fv::image::scan(&image)? {
-//!     let volume = &image[header.range()];
-//!     for node in fv::volume::tree(volume)? {
-//!         if node.kind() == NodeKind::File {
-//!             println!("{:?}: {} bytes", node.guid(), node.length());
-//!         }
-//!     }
-//! }
-//! # Ok(())
-//! # }
-//! ```
-//!
 //! An input may be any slice, even an empty one. If it is rejected, the function returns
 //! [`Error::Rejected`] with the [`Fault`]. The crate keeps no state and takes no lock, so any
 //! number of threads may call at once, also over the same input. Nothing may write to an input
@@ -51,18 +33,13 @@
 //! handler, nor in the child of a fork of a process with threads.
 //!
 //! Offsets and lengths are in bytes. Functions that return rows return the [`Vec`] to which the
-//! call has written, so the rows are not copied.
+//! call has written, so the rows are not copied. The README of the crate says how the library is
+//! found when the crate is built.
 //!
 //! # Panics
 //!
 //! A getter panics if libfv has written a value that `fv.h` does not have, such as a kind of cell
 //! that no 2.x has. No input leads to a panic.
-//!
-//! # The library
-//!
-//! The crate `libfv-sys` finds the library when it is built: in the folder that the environment
-//! variable `LIBFV_DIR` names, otherwise by `pkg-config`. With the feature `static`, or if the
-//! environment variable `LIBFV_STATIC` is set, `libfv.a` is linked.
 #![deny(missing_docs)]
 #![deny(unsafe_op_in_unsafe_fn)]
 

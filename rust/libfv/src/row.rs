@@ -13,10 +13,13 @@ pub(crate) unsafe trait Row: Sized {
     type Raw;
 }
 
-/// Defines a row over a structure of `fv.h`. Its getters decide whether two rows are equal.
+/// Defines a row over a structure of `fv.h`, with getters. The first getters decide whether two rows
+/// are equal. Those after `and` only follow from them.
 macro_rules! row {
-    ($(#[$attribute:meta])* $name:ident($raw:ident) { $($getter:ident),* $(,)? }) => {
-        $(#[$attribute])*
+    ($(#[$about:meta])* $name:ident($raw:ident), $it:ident {
+        $($(#[$doc:meta])* $getter:ident: $type:ty = $value:expr,)*
+    } $(and { $($(#[$also:meta])* $more:ident: $kind:ty = $follows:expr,)* })?) => {
+        $(#[$about])*
         #[derive(Clone, Copy)]
         #[repr(transparent)]
         pub struct $name(libfv_sys::$raw);
@@ -24,6 +27,23 @@ macro_rules! row {
         // SAFETY: the structure is its only field, and the type is transparent.
         unsafe impl crate::row::Row for $name {
             type Raw = libfv_sys::$raw;
+        }
+
+        impl $name {
+            $(
+                $(#[$doc])*
+                pub fn $getter(&self) -> $type {
+                    let $it = self;
+                    $value
+                }
+            )*
+            $($(
+                $(#[$also])*
+                pub fn $more(&self) -> $kind {
+                    let $it = self;
+                    $follows
+                }
+            )*)?
         }
 
         impl PartialEq for $name {
@@ -50,6 +70,29 @@ macro_rules! row {
     };
 }
 pub(crate) use row;
+
+/// Defines an enumeration over constants of `fv.h`. `of` makes it from a value that a call has
+/// written.
+macro_rules! kinds {
+    ($(#[$about:meta])* $name:ident, $what:literal:
+     $($(#[$doc:meta])* $kind:ident = $constant:ident,)*) => {
+        $(#[$about])*
+        #[derive(Clone, Copy, Debug, PartialEq, Eq, Hash)]
+        pub enum $name {
+            $($(#[$doc])* $kind,)*
+        }
+
+        impl $name {
+            fn of(value: u32) -> $name {
+                match value {
+                    $(libfv_sys::$constant => $name::$kind,)*
+                    _ => crate::row::unknown($what, value),
+                }
+            }
+        }
+    };
+}
+pub(crate) use kinds;
 
 /// Reports a value that `fv.h` does not have. Its kinds get no new member in 2.x.
 pub(crate) fn unknown(what: &str, value: u32) -> ! {

@@ -10,215 +10,132 @@
 
 use crate::call::{self, address, filled};
 use crate::error::check;
-use crate::row::{guid_or_none, narrow, range, row, unknown};
+use crate::row::{guid_or_none, kinds, narrow, range, row};
 use crate::{Error, Guid};
 use libfv_sys as sys;
 use std::fmt;
 use std::ops::Range;
 
-/// The kind of a [`Cell`].
-#[derive(Clone, Copy, Debug, PartialEq, Eq, Hash)]
-pub enum CellKind {
+kinds! {
+    /// The kind of a [`Cell`].
+    CellKind, "kind of cell":
     /// A valid file, even if it is superseded.
-    File,
+    File = FV_CELL_FILE,
     /// A pad file.
-    Pad,
+    Pad = FV_CELL_PAD,
     /// A deleted file.
-    Deleted,
+    Deleted = FV_CELL_DELETED,
     /// A file whose data or header were never finished.
-    Unfinished,
+    Unfinished = FV_CELL_UNFINISHED,
     /// Erased bytes up to the end of the volume.
-    Free,
+    Free = FV_CELL_FREE,
 }
 
 row! {
     /// A cell of a volume's body, as stored: a file, a pad, a deleted file or free bytes. [`cells`]
     /// returns these rows.
-    Cell(fv_cell) { offset, length, kind, header_length, efi_type, attributes, name }
+    Cell(fv_cell), it {
+        /// Returns the offset in bytes from the volume's first byte.
+        offset: usize = it.0.offset as usize,
+        /// Returns the number of bytes. It includes the filler after a deleted or unfinished file,
+        /// but not the filler after a valid file or a pad.
+        length: usize = it.0.length as usize,
+        /// Returns the kind of the cell.
+        kind: CellKind = CellKind::of(it.0.kind),
+        /// Returns the number of bytes of the header of a valid file or a pad, whose data follow
+        /// the header. Returns `None` for other cells.
+        header_length: Option<usize> = it.has_header().then_some(it.0.header_length as usize),
+        /// Returns `Type` of a valid file or a pad, and `None` for other cells. [`file_type`] has
+        /// names for it.
+        ///
+        /// [`file_type`]: crate::file_type
+        efi_type: Option<u8> = it.has_header().then(|| narrow(it.0.efi_type, "Type")),
+        /// Returns `Attributes` of a valid file or a pad, and `None` for other cells.
+        attributes: Option<u32> = it.has_header().then_some(it.0.attributes),
+        /// Returns `Name` of a valid file or a pad, and `None` for other cells.
+        name: Option<Guid> = it.has_header().then_some(Guid::from_bytes_le(it.0.name.bytes)),
+    } and {
+        /// Returns the range of the cell's bytes in the input.
+        range: Range<usize> = range(it.0.offset, it.0.length),
+    }
 }
 
 impl Cell {
-    /// Returns the offset in bytes from the volume's first byte.
-    pub fn offset(&self) -> usize {
-        self.0.offset as usize
-    }
-
-    /// Returns the number of bytes. It includes the filler after a deleted or unfinished file, but
-    /// not the filler after a valid file or a pad.
-    pub fn length(&self) -> usize {
-        self.0.length as usize
-    }
-
-    /// Returns the range of the cell's bytes in the input.
-    pub fn range(&self) -> Range<usize> {
-        range(self.0.offset, self.0.length)
-    }
-
-    /// Returns the kind of the cell.
-    pub fn kind(&self) -> CellKind {
-        match self.0.kind {
-            sys::FV_CELL_FILE => CellKind::File,
-            sys::FV_CELL_PAD => CellKind::Pad,
-            sys::FV_CELL_DELETED => CellKind::Deleted,
-            sys::FV_CELL_UNFINISHED => CellKind::Unfinished,
-            sys::FV_CELL_FREE => CellKind::Free,
-            kind => unknown("kind of cell", kind),
-        }
-    }
-
-    /// Returns the number of bytes of the header of a valid file or a pad, whose data follow the
-    /// header. Returns `None` for other cells.
-    pub fn header_length(&self) -> Option<usize> {
-        self.has_header().then_some(self.0.header_length as usize)
-    }
-
-    /// Returns `Type` of a valid file or a pad, and `None` for other cells. [`file_type`] has names
-    /// for it.
-    ///
-    /// [`file_type`]: crate::file_type
-    pub fn efi_type(&self) -> Option<u8> {
-        self.has_header().then(|| narrow(self.0.efi_type, "Type"))
-    }
-
-    /// Returns `Attributes` of a valid file or a pad, and `None` for other cells.
-    pub fn attributes(&self) -> Option<u32> {
-        self.has_header().then_some(self.0.attributes)
-    }
-
-    /// Returns `Name` of a valid file or a pad, and `None` for other cells.
-    pub fn name(&self) -> Option<Guid> {
-        let name = self.0.name.bytes;
-        self.has_header().then_some(Guid::from_bytes_le(name))
-    }
-
     /// Returns whether the cell has the fields of a header.
     fn has_header(&self) -> bool {
         matches!(self.kind(), CellKind::File | CellKind::Pad)
     }
 }
 
-/// The kind of a [`Node`].
-#[derive(Clone, Copy, Debug, PartialEq, Eq, Hash)]
-pub enum NodeKind {
+kinds! {
+    /// The kind of a [`Node`].
+    NodeKind, "kind of node":
     /// A volume.
-    Volume,
+    Volume = FV_NODE_VOLUME,
     /// A file.
-    File,
+    File = FV_NODE_FILE,
     /// A section.
-    Section,
+    Section = FV_NODE_SECTION,
 }
 
-/// The kind of contents of a [`Node`].
-#[derive(Clone, Copy, Debug, PartialEq, Eq, Hash)]
-pub enum Content {
+kinds! {
+    /// The kind of contents of a [`Node`].
+    Content, "content":
     /// Files: the node is a volume.
-    Files,
+    Files = FV_CONTENT_FILES,
     /// Bytes.
-    Bytes,
+    Bytes = FV_CONTENT_BYTES,
     /// Sections: the node is a group, or a file whose data are sections. There may be none.
-    Sections,
+    Sections = FV_CONTENT_SECTIONS,
     /// A volume: the node is a section.
-    Volume,
+    Volume = FV_CONTENT_VOLUME,
 }
 
 row! {
     /// A volume, a file or a section of the tree of a volume. [`tree`] returns these rows.
-    Node(fv_node) {
-        offset, length, parent, index, depth, kind, content, efi_type, attributes, header_length,
-        guid, file_system,
-    }
-}
-
-impl Node {
-    /// Returns the offset in the input of the volume, of the file's data or of the section's body,
-    /// as stored.
-    pub fn offset(&self) -> usize {
-        self.0.offset as usize
-    }
-
-    /// Returns the number of these bytes; for a volume `FvLength`.
-    pub fn length(&self) -> usize {
-        self.0.length as usize
-    }
-
-    /// Returns the range of these bytes in the input.
-    pub fn range(&self) -> Range<usize> {
-        range(self.0.offset, self.0.length)
-    }
-
-    /// Returns the number of the row that holds this one, counted from 0. Returns `None` for the
-    /// first row.
-    pub fn parent(&self) -> Option<usize> {
-        (self.0.parent != sys::FV_NO_PARENT).then_some(self.0.parent as usize)
-    }
-
-    /// Returns the number of this part among the parts that its parent holds, counted from 0.
-    pub fn index(&self) -> usize {
-        self.0.index as usize
-    }
-
-    /// Returns the number of rows around this one.
-    pub fn depth(&self) -> usize {
-        self.0.depth as usize
-    }
-
-    /// Returns the kind of the node.
-    pub fn kind(&self) -> NodeKind {
-        match self.0.kind {
-            sys::FV_NODE_VOLUME => NodeKind::Volume,
-            sys::FV_NODE_FILE => NodeKind::File,
-            sys::FV_NODE_SECTION => NodeKind::Section,
-            kind => unknown("kind of node", kind),
-        }
-    }
-
-    /// Returns the kind of the node's contents.
-    pub fn content(&self) -> Content {
-        match self.0.content {
-            sys::FV_CONTENT_FILES => Content::Files,
-            sys::FV_CONTENT_BYTES => Content::Bytes,
-            sys::FV_CONTENT_SECTIONS => Content::Sections,
-            sys::FV_CONTENT_VOLUME => Content::Volume,
-            content => unknown("content", content),
-        }
-    }
-
-    /// Returns `Type` of a file or a section, and `None` for a volume. [`file_type`] and
-    /// [`section_type`] have names for it.
-    ///
-    /// [`file_type`]: crate::file_type
-    /// [`section_type`]: crate::section_type
-    pub fn efi_type(&self) -> Option<u8> {
-        (self.kind() != NodeKind::Volume).then(|| narrow(self.0.efi_type, "Type"))
-    }
-
-    /// Returns `Attributes` of a volume, or `Attributes` of a file without bit 0x01. The
-    /// [`header_length`](Node::header_length) of a file with this bit is 32. Returns `None` for a
-    /// section.
-    pub fn attributes(&self) -> Option<u32> {
-        (self.kind() != NodeKind::Section).then_some(self.0.attributes)
-    }
-
-    /// Returns the number of bytes of the header: `HeaderLength` of a volume, 24 or 32 for a file,
-    /// 4 or 8 for a section. The header of a file or a section precedes its offset.
-    pub fn header_length(&self) -> usize {
-        self.0.header_length as usize
-    }
-
-    /// Returns `Name` of a file, or `FvName` of a volume. Returns `None` for a section, and for a
-    /// volume that has no extended header or whose `FvName` is 16 zeros.
-    pub fn guid(&self) -> Option<Guid> {
-        match self.kind() {
-            NodeKind::Volume => guid_or_none(self.0.guid),
-            NodeKind::File => Some(Guid::from_bytes_le(self.0.guid.bytes)),
+    Node(fv_node), it {
+        /// Returns the offset in the input of the volume, of the file's data or of the section's
+        /// body, as stored.
+        offset: usize = it.0.offset as usize,
+        /// Returns the number of these bytes; for a volume `FvLength`.
+        length: usize = it.0.length as usize,
+        /// Returns the number of the row that holds this one, counted from 0. Returns `None` for
+        /// the first row.
+        parent: Option<usize> = (it.0.parent != sys::FV_NO_PARENT).then_some(it.0.parent as usize),
+        /// Returns the number of this part among the parts that its parent holds, counted from 0.
+        index: usize = it.0.index as usize,
+        /// Returns the number of rows around this one.
+        depth: usize = it.0.depth as usize,
+        /// Returns the kind of the node.
+        kind: NodeKind = NodeKind::of(it.0.kind),
+        /// Returns the kind of the node's contents.
+        content: Content = Content::of(it.0.content),
+        /// Returns `Type` of a file or a section, and `None` for a volume. [`file_type`] and
+        /// [`section_type`] have names for it.
+        ///
+        /// [`file_type`]: crate::file_type
+        /// [`section_type`]: crate::section_type
+        efi_type: Option<u8> = (it.kind() != NodeKind::Volume).then(|| narrow(it.0.efi_type, "Type")),
+        /// Returns `Attributes` of a volume, or `Attributes` of a file without bit 0x01. The
+        /// [`header_length`](Node::header_length) of a file with this bit is 32. Returns `None` for
+        /// a section.
+        attributes: Option<u32> = (it.kind() != NodeKind::Section).then_some(it.0.attributes),
+        /// Returns the number of bytes of the header: `HeaderLength` of a volume, 24 or 32 for a
+        /// file, 4 or 8 for a section. The header of a file or a section precedes its offset.
+        header_length: usize = it.0.header_length as usize,
+        /// Returns `Name` of a file, or `FvName` of a volume. Returns `None` for a section, and for
+        /// a volume that has no extended header or whose `FvName` is 16 zeros.
+        guid: Option<Guid> = match it.kind() {
+            NodeKind::Volume => guid_or_none(it.0.guid),
+            NodeKind::File => Some(Guid::from_bytes_le(it.0.guid.bytes)),
             NodeKind::Section => None,
-        }
-    }
-
-    /// Returns the version of a volume's file system: 2 for FFS2, 3 for FFS3. Returns `None` for
-    /// files and sections.
-    pub fn file_system(&self) -> Option<u32> {
-        (self.kind() == NodeKind::Volume).then_some(self.0.file_system)
+        },
+        /// Returns the version of a volume's file system: 2 for FFS2, 3 for FFS3. Returns `None`
+        /// for files and sections.
+        file_system: Option<u32> = (it.kind() == NodeKind::Volume).then_some(it.0.file_system),
+    } and {
+        /// Returns the range of these bytes in the input.
+        range: Range<usize> = range(it.0.offset, it.0.length),
     }
 }
 
@@ -259,13 +176,9 @@ impl fmt::Debug for Digest {
 
 row! {
     /// The digest of a row of the tree. [`tree_digests`] returns these rows.
-    NodeDigest(fv_sha256) { digest }
-}
-
-impl NodeDigest {
-    /// Returns the digest, and `None` for a section that holds sections or a volume.
-    pub fn digest(&self) -> Option<Digest> {
-        (self.0.bytes != [0; 32]).then_some(Digest(self.0.bytes))
+    NodeDigest(fv_sha256), it {
+        /// Returns the digest, and `None` for a section that holds sections or a volume.
+        digest: Option<Digest> = (it.0.bytes != [0; 32]).then_some(Digest(it.0.bytes)),
     }
 }
 
@@ -273,11 +186,9 @@ impl NodeDigest {
 /// because its files do not fit, is not.
 ///
 /// ```
-/// # include!(concat!(env!("CARGO_MANIFEST_DIR"), "/tests/sample/volumes.rs"));
-/// # fn main() -> Result<(), fv::Error> {
-/// assert!(fv::volume::is_canonical(&empty())?);
-/// # Ok(())
-/// # }
+/// # let (volume, empty) = include!(concat!(env!("CARGO_MANIFEST_DIR"), "/tests/sample/volumes.rs"));
+/// assert!(fv::volume::is_canonical(&empty)?);
+/// # Ok::<(), fv::Error>(())
 /// ```
 ///
 /// # Errors
@@ -292,14 +203,11 @@ pub fn is_canonical(volume: &[u8]) -> Result<bool, Error> {
 /// The image is for comparing and archiving, and must not be flashed.
 ///
 /// ```
-/// # include!(concat!(env!("CARGO_MANIFEST_DIR"), "/tests/sample/volumes.rs"));
-/// # fn main() -> Result<(), fv::Error> {
-/// # let volume = volume();
+/// # let (volume, empty) = include!(concat!(env!("CARGO_MANIFEST_DIR"), "/tests/sample/volumes.rs"));
 /// let image = fv::volume::normalise(&volume)?;
 /// assert!(fv::volume::is_canonical(&image)?);
 /// assert_eq!(fv::volume::compare(&volume, &image)?, None);
-/// # Ok(())
-/// # }
+/// # Ok::<(), fv::Error>(())
 /// ```
 ///
 /// # Errors
@@ -319,9 +227,7 @@ pub fn normalise(volume: &[u8]) -> Result<Vec<u8>, Error> {
 /// fixed files, but accept the copy. The copy must not be flashed.
 ///
 /// ```
-/// # include!(concat!(env!("CARGO_MANIFEST_DIR"), "/tests/sample/volumes.rs"));
-/// # fn main() -> Result<(), fv::Error> {
-/// # let mut volume = volume();
+/// # let (mut volume, _) = include!(concat!(env!("CARGO_MANIFEST_DIR"), "/tests/sample/volumes.rs"));
 /// // The header of the file at 72: its attributes are at 19, and its header checksum is at 16.
 /// volume[72 + 19] |= 4;
 /// volume[72 + 16] = volume[72 + 16].wrapping_sub(4);
@@ -329,8 +235,7 @@ pub fn normalise(volume: &[u8]) -> Result<Vec<u8>, Error> {
 /// assert_eq!(error.fault().unwrap().kind(), fv::FaultKind::Fixed);
 /// let copy = fv::volume::unfix(&volume)?;
 /// assert_eq!(fv::volume::tree(&copy)?.len(), 4);
-/// # Ok(())
-/// # }
+/// # Ok::<(), fv::Error>(())
 /// ```
 ///
 /// # Errors
@@ -345,13 +250,10 @@ pub fn unfix(volume: &[u8]) -> Result<Vec<u8>, Error> {
 /// meaning have the same digest.
 ///
 /// ```
-/// # include!(concat!(env!("CARGO_MANIFEST_DIR"), "/tests/sample/volumes.rs"));
-/// # fn main() -> Result<(), fv::Error> {
-/// # let volume = volume();
+/// # let (volume, empty) = include!(concat!(env!("CARGO_MANIFEST_DIR"), "/tests/sample/volumes.rs"));
 /// let image = fv::volume::normalise(&volume)?;
 /// assert_eq!(fv::volume::digest(&volume)?, fv::volume::digest(&image)?);
-/// # Ok(())
-/// # }
+/// # Ok::<(), fv::Error>(())
 /// ```
 ///
 /// # Errors
@@ -366,14 +268,12 @@ pub fn digest(volume: &[u8]) -> Result<Digest, Error> {
 /// kind.
 ///
 /// ```
-/// # include!(concat!(env!("CARGO_MANIFEST_DIR"), "/tests/sample/volumes.rs"));
-/// # fn main() -> Result<(), fv::Error> {
-/// let difference = fv::volume::compare(&volume(), &empty())?;
+/// # let (volume, empty) = include!(concat!(env!("CARGO_MANIFEST_DIR"), "/tests/sample/volumes.rs"));
+/// let difference = fv::volume::compare(&volume, &empty)?;
 /// assert_eq!(difference.as_deref(), Some("different at file count"));
-/// let error = fv::volume::compare(&volume(), b"not a volume").unwrap_err();
+/// let error = fv::volume::compare(&volume, b"not a volume").unwrap_err();
 /// assert_eq!(error.fault().unwrap().input(), 1);
-/// # Ok(())
-/// # }
+/// # Ok::<(), fv::Error>(())
 /// ```
 ///
 /// # Errors
@@ -409,16 +309,13 @@ pub fn compare(first: &[u8], second: &[u8]) -> Result<Option<String>, Error> {
 /// not read.
 ///
 /// ```
-/// # include!(concat!(env!("CARGO_MANIFEST_DIR"), "/tests/sample/volumes.rs"));
+/// # let (volume, empty) = include!(concat!(env!("CARGO_MANIFEST_DIR"), "/tests/sample/volumes.rs"));
 /// use fv::volume::CellKind;
 ///
-/// # fn main() -> Result<(), fv::Error> {
-/// # let volume = volume();
 /// let cells = fv::volume::cells(&volume)?;
 /// let kinds: Vec<_> = cells.iter().map(|it| (it.kind(), it.offset())).collect();
 /// assert_eq!(kinds, [(CellKind::File, 72), (CellKind::Free, 112)]);
-/// # Ok(())
-/// # }
+/// # Ok::<(), fv::Error>(())
 /// ```
 ///
 /// # Errors
@@ -438,11 +335,9 @@ pub fn cells(bytes: &[u8]) -> Result<Vec<Cell>, Error> {
 /// returns them as the canonical image has them.
 ///
 /// ```
-/// # include!(concat!(env!("CARGO_MANIFEST_DIR"), "/tests/sample/volumes.rs"));
+/// # let (volume, empty) = include!(concat!(env!("CARGO_MANIFEST_DIR"), "/tests/sample/volumes.rs"));
 /// use fv::volume::NodeKind;
 ///
-/// # fn main() -> Result<(), fv::Error> {
-/// # let volume = volume();
 /// let tree = fv::volume::tree(&volume)?;
 /// for node in &tree {
 ///     let bytes = &volume[node.range()];
@@ -451,8 +346,7 @@ pub fn cells(bytes: &[u8]) -> Result<Vec<Cell>, Error> {
 /// let last = tree.last().unwrap();
 /// assert_eq!((last.kind(), last.parent(), last.index()), (NodeKind::Section, Some(1), 1));
 /// assert_eq!(volume[last.range()], [1, 2]);
-/// # Ok(())
-/// # }
+/// # Ok::<(), fv::Error>(())
 /// ```
 ///
 /// # Errors
@@ -469,9 +363,7 @@ pub fn tree(volume: &[u8]) -> Result<Vec<Node>, Error> {
 /// digest. So the digest of a row covers the bytes that [`extract`] returns for it.
 ///
 /// ```
-/// # include!(concat!(env!("CARGO_MANIFEST_DIR"), "/tests/sample/volumes.rs"));
-/// # fn main() -> Result<(), fv::Error> {
-/// # let volume = volume();
+/// # let (volume, empty) = include!(concat!(env!("CARGO_MANIFEST_DIR"), "/tests/sample/volumes.rs"));
 /// let digests = fv::volume::tree_digests(&volume)?;
 /// for (node, row) in fv::volume::tree(&volume)?.iter().zip(&digests) {
 ///     if let Some(digest) = row.digest() {
@@ -479,8 +371,7 @@ pub fn tree(volume: &[u8]) -> Result<Vec<Node>, Error> {
 ///     }
 /// }
 /// assert_eq!(digests[0].digest(), Some(fv::volume::digest(&volume)?));
-/// # Ok(())
-/// # }
+/// # Ok::<(), fv::Error>(())
 /// ```
 ///
 /// # Errors
@@ -499,14 +390,11 @@ pub fn tree_digests(volume: &[u8]) -> Result<Vec<NodeDigest>, Error> {
 /// and the body of a section that holds bytes are as they are in the input.
 ///
 /// ```
-/// # include!(concat!(env!("CARGO_MANIFEST_DIR"), "/tests/sample/volumes.rs"));
-/// # fn main() -> Result<(), fv::Error> {
-/// # let volume = volume();
+/// # let (volume, empty) = include!(concat!(env!("CARGO_MANIFEST_DIR"), "/tests/sample/volumes.rs"));
 /// assert_eq!(fv::volume::extract(&volume, 0)?, fv::volume::normalise(&volume)?);
 /// assert_eq!(fv::volume::extract(&volume, 3)?, [1, 2]);
 /// assert_eq!(fv::volume::extract(&volume, 4), Err(fv::Error::NoSuchRow));
-/// # Ok(())
-/// # }
+/// # Ok::<(), fv::Error>(())
 /// ```
 ///
 /// # Errors
@@ -522,15 +410,7 @@ pub fn extract(volume: &[u8], row: usize) -> Result<Vec<u8>, Error> {
     // what fv.h says.
     unsafe {
         filled(volume.len(), |buffer: *mut u8, room, length, fault| {
-            sys::fv_volume_extract(
-                address(volume),
-                volume.len(),
-                row,
-                buffer.cast(),
-                room,
-                length,
-                fault,
-            )
+            sys::fv_volume_extract(address(volume), volume.len(), row, buffer.cast(), room, length, fault)
         })
     }
 }
@@ -566,10 +446,7 @@ mod tests {
         second.0.length = 1;
         assert_ne!(first, second);
         let text = format!("{first:?}");
-        assert!(
-            text.starts_with("Cell { offset: 0, length: 0, kind: File, "),
-            "{text}"
-        );
+        assert!(text.starts_with("Cell { offset: 0, length: 0, kind: File, "), "{text}");
     }
 
     #[test]
