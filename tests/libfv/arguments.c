@@ -1,11 +1,13 @@
 /* SPDX-License-Identifier: BSD-2-Clause-Patent */
-/* Checks rules 1 to 4 of fv.h. Each call returns FV_BAD_ARGUMENT for an argument that is not allowed, and writes
- * nothing, not even the fault. It does the same with NULL as with a pointer if NULL is allowed. It reads and writes
+/* Checks rules 1 to 4 of fv.h. Each call returns FV_BAD_ARGUMENT for an
+ * argument that is not allowed, and writes nothing, not even the fault. It does
+ * the same with NULL as with a pointer if NULL is allowed. It reads and writes
  * only its arguments, which lie beside pages that cannot be touched.
  *
- * Each argument of a call is tried as NULL, one byte too far, and over each other argument. Sizes that reach past the
- * last address are tried too. The test fills the buffer and the results before a call. After a rejected call they must
- * be unchanged. */
+ * Each argument of a call is tried as NULL, one byte too far, and over each
+ * other argument. Sizes that reach past the last address are tried too. The
+ * test fills the buffer and the results before a call. After a rejected call
+ * they must be unchanged. */
 #define _DEFAULT_SOURCE
 #include "calls.h"
 #include <sys/mman.h>
@@ -52,7 +54,8 @@ static void refuse(const struct call *call, const struct argument *all, const ch
     refused++;
 }
 
-/* Makes a call that must not be rejected because of its arguments, and returns its result. */
+/* Makes a call that must not be rejected because of its arguments, and returns
+ * its result. */
 static fv_result accept(const struct call *call, const struct argument *all, const char *how, const struct argument *it)
 {
     begin(call, how, it);
@@ -72,8 +75,9 @@ static void try_null(const struct call *call, struct argument *all, int i, fv_re
         refuse(call, all, "NULL", all + i);
 }
 
-/* Tries an empty argument with an address and with NULL, with which the call must do the same. Then tries sizes that
- * are too large: more than half of the addresses, too large by the size of a row, and past the last address. */
+/* Tries an empty argument with an address and with NULL, with which the call
+ * must do the same. Then tries sizes that are too large: more than half of the
+ * addresses, too large by the size of a row, and past the last address. */
 static void try_sizes(const struct call *call, struct argument *all, int i)
 {
     uint8_t seen[sizeof buffer];
@@ -89,7 +93,8 @@ static void try_sizes(const struct call *call, struct argument *all, int i)
     refuse(call, all, "as large as can be", all + i);
     all[i].count = SIZE_MAX / 2 / all[i].size + 1;
     refuse(call, all, "larger than half of the addresses", all + i);
-    all[i].at = (void *)((uintptr_t)1 << 62); /* after all other arguments, so that it overlaps none of them */
+    all[i].at = (void *)((uintptr_t)1 << 62); /* after all other arguments, so
+                                                 that it overlaps none of them */
     refuse(call, all, "larger than half of the addresses, and after all others", all + i);
     all[i].at = (void *)(UINTPTR_MAX - 127); /* aligned for each type */
     all[i].count = 512 / all[i].size;
@@ -109,7 +114,8 @@ static void try_misaligned(const struct call *call, struct argument *all, int i)
     refuse(call, all, "misaligned, and empty", all + i);
 }
 
-/* Tries an argument over another argument: at the first byte of the other, and over its last bytes only. */
+/* Tries an argument over another argument: at the first byte of the other, and
+ * over its last bytes only. */
 static void try_over(const struct call *call, struct argument *all, int i, const struct argument *its)
 {
     size_t last = (its->count * its->size - 1) / all[i].align * all[i].align;
@@ -140,8 +146,10 @@ static void try_each_argument(const struct call *call)
     }
 }
 
-/* Makes a call with each argument in pages of its own, at their end or their start. The pages before and after them
- * cannot be touched, and inputs cannot be written to. The call must write what it writes elsewhere, and nothing else.
+/* Makes a call with each argument in pages of its own, at their end or their
+ * start. The pages before and after them cannot be touched, and inputs cannot
+ * be written to. The call must write what it writes elsewhere, and nothing
+ * else.
  */
 static void try_in_pages(const struct call *call, bool at_end)
 {
@@ -207,33 +215,17 @@ static void try_phases(void)
     EXPECT(value == FV_DEPEX_FALSE && fault->result == 0);
 }
 
-/* Checks what each call does without an input, without a buffer, and with NULL for both. */
+/* Checks what each call does without an input, without a buffer, and with NULL
+ * for both. */
 static void try_nothing(void)
 {
-    static const fv_result results[CALLS] = {FV_FAULT_TRUNCATED,
-                                             FV_OK,
-                                             FV_OK,
-                                             FV_OK,
-                                             FV_FAULT_TRUNCATED,
-                                             FV_FAULT_TRUNCATED,
-                                             FV_FAULT_TRUNCATED,
-                                             FV_FAULT_TRUNCATED,
-                                             FV_FAULT_TRUNCATED,
-                                             FV_FAULT_TRUNCATED,
-                                             FV_FAULT_TRUNCATED,
-                                             FV_FAULT_TRUNCATED,
-                                             FV_FAULT_TRUNCATED,
-                                             FV_FAULT_DEPEX_NO_END,
-                                             FV_FAULT_HOB_NO_END,
-                                             FV_BUFFER_TOO_SMALL,
-                                             FV_BAD_GUID};
     for (EACH_CALL(call)) {
         struct argument all[MOST];
         memcpy(all, call->all, sizeof all);
         for (EACH_ARGUMENT(i, call))
             if (has_size(all + i)) all[i].at = NULL, all[i].count = 0;
         fv_result result = accept(call, all, "and all others, NULL and empty", all);
-        EXPECT(result == results[call - calls]);
+        EXPECT(result == call->of_nothing);
         if (result != FV_OK) EXPECT(is_full(count, sizeof count) && is_full(length, sizeof length));
         if (result == FV_OK && call->all[2].at == count) EXPECT(*count == 0);
         if (result && result < FV_BUFFER_TOO_SMALL) EXPECT(fault->result == result && !fault->offset && !fault->input);
@@ -243,8 +235,8 @@ static void try_nothing(void)
            fault->input == 1);
 }
 
-/* Checks that an image above the limit is scanned, but neither checked nor normalised, and that an image at the limit
- * is accepted. */
+/* Checks that an image above the limit is scanned, but neither checked nor
+ * normalised, and that an image at the limit is accepted. */
 static void try_large_image(void)
 {
     uint8_t *image = mmap(NULL, FV_LENGTH_MAX + 8, PROT_READ, MAP_PRIVATE | MAP_ANONYMOUS | MAP_NORESERVE, -1, 0);

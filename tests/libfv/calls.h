@@ -98,10 +98,12 @@ struct argument {
     size_t count, size, align;
 };
 
-/* A call: its arguments, in the order of its parameters, and the function that makes the call with them. */
+/* A call: the function that makes the call with its arguments, its result if all inputs and buffers are empty, and its
+ * arguments, in the order of its parameters. */
 struct call {
     const char *name;
     fv_result (*make)(const struct argument *);
+    fv_result of_nothing;
     struct argument all[MOST];
 };
 
@@ -134,26 +136,27 @@ MAKES(guid_parse, P(0), N(0), P(1))
 #define ROWS(of) ELEMENTS(BUFFER, buffer.of, ROOM)
 #define ONE(of) ELEMENTS(RESULT, of, 1)
 #define ITS_FAULT ELEMENTS(FAULT, fault, 1)
-#define CALL(call, ...) {"fv_" #call, call, {__VA_ARGS__}}
+#define CALL(call, of_nothing, ...) {"fv_" #call, call, FV_##of_nothing, {__VA_ARGS__}}
 
 static const struct call calls[] = {
-    CALL(header_read, IN(volume), ONE(header), ITS_FAULT),
-    CALL(image_scan, IN(volume), ROWS(headers), ONE(count), ITS_FAULT),
-    CALL(image_check, IN(volume), ROWS(checks), ONE(count), ITS_FAULT),
-    CALL(image_normalise, IN(volume), OUT(bytes), ITS_FAULT),
-    CALL(volume_is_canonical, IN(volume), ONE(number), ITS_FAULT),
-    CALL(volume_normalise, IN(volume), OUT(bytes), ITS_FAULT),
-    CALL(volume_unfix, IN(volume), OUT(bytes), ITS_FAULT),
-    CALL(volume_digest, IN(volume), ONE(digest), ITS_FAULT),
-    CALL(volume_compare, IN(volume), IN(other), OUT(text), ONE(found), ITS_FAULT),
-    CALL(volume_cells, IN(volume), ROWS(cells), ONE(count), ITS_FAULT),
-    CALL(volume_tree, IN(volume), ROWS(nodes), ONE(count), ITS_FAULT),
-    CALL(volume_tree_digests, IN(volume), ROWS(digests), ONE(count), ITS_FAULT),
-    CALL(volume_extract, IN(volume), VALUE(1), OUT(bytes), ONE(length), ITS_FAULT),
-    CALL(depex_evaluate, IN(expression), VALUE(FV_PHASE_DXE), ELEMENTS(INPUT, guid, 1), ONE(number), ITS_FAULT),
-    CALL(hobs_read, IN(list), ROWS(hobs), ONE(count), ONE(length), ITS_FAULT),
-    CALL(guid_text, ELEMENTS(OBJECT, guid, 1), OUT(text)),
-    CALL(guid_parse, IN(text_of_guid), ONE(guid)),
+    CALL(header_read, FAULT_TRUNCATED, IN(volume), ONE(header), ITS_FAULT),
+    CALL(image_scan, OK, IN(volume), ROWS(headers), ONE(count), ITS_FAULT),
+    CALL(image_check, OK, IN(volume), ROWS(checks), ONE(count), ITS_FAULT),
+    CALL(image_normalise, OK, IN(volume), OUT(bytes), ITS_FAULT),
+    CALL(volume_is_canonical, FAULT_TRUNCATED, IN(volume), ONE(number), ITS_FAULT),
+    CALL(volume_normalise, FAULT_TRUNCATED, IN(volume), OUT(bytes), ITS_FAULT),
+    CALL(volume_unfix, FAULT_TRUNCATED, IN(volume), OUT(bytes), ITS_FAULT),
+    CALL(volume_digest, FAULT_TRUNCATED, IN(volume), ONE(digest), ITS_FAULT),
+    CALL(volume_compare, FAULT_TRUNCATED, IN(volume), IN(other), OUT(text), ONE(found), ITS_FAULT),
+    CALL(volume_cells, FAULT_TRUNCATED, IN(volume), ROWS(cells), ONE(count), ITS_FAULT),
+    CALL(volume_tree, FAULT_TRUNCATED, IN(volume), ROWS(nodes), ONE(count), ITS_FAULT),
+    CALL(volume_tree_digests, FAULT_TRUNCATED, IN(volume), ROWS(digests), ONE(count), ITS_FAULT),
+    CALL(volume_extract, FAULT_TRUNCATED, IN(volume), VALUE(1), OUT(bytes), ONE(length), ITS_FAULT),
+    CALL(depex_evaluate, FAULT_DEPEX_NO_END, IN(expression), VALUE(FV_PHASE_DXE), ELEMENTS(INPUT, guid, 1), ONE(number),
+         ITS_FAULT),
+    CALL(hobs_read, FAULT_HOB_NO_END, IN(list), ROWS(hobs), ONE(count), ONE(length), ITS_FAULT),
+    CALL(guid_text, BUFFER_TOO_SMALL, ELEMENTS(OBJECT, guid, 1), OUT(text)),
+    CALL(guid_parse, BAD_GUID, IN(text_of_guid), ONE(guid)),
 };
 enum { CALLS = sizeof calls / sizeof *calls };
 

@@ -48,24 +48,15 @@ class Compiled(RoomCase):
 class Header(RoomCase):
     """fv.h is compiled on its own."""
 
-    def check(self, compiler: str, language: str, standards: list[str]) -> None:
-        if not can_compile(language, compiler):
-            self.skipTest(f"{compiler} compiles nothing in {language}")
-        for standard in standards:
-            words = [compiler, "-x", language, f"-std={standard}", *WARN, "-c", "-o", os.devnull, "-"]
-            self.expect(0, "", *words, input="#include <fv.h>\n")
-
-    def test_c_with_gcc(self) -> None:
-        self.check("gcc", "c", ["c99", "c11", "c17"])
-
-    def test_c_with_clang(self) -> None:
-        self.check("clang", "c", ["c99", "c11", "c17"])
-
-    def test_cxx_with_gcc(self) -> None:
-        self.check("gcc", "c++", ["c++11", "c++17", "c++20"])
-
-    def test_cxx_with_clang(self) -> None:
-        self.check("clang", "c++", ["c++11", "c++17", "c++20"])
+    def test_compiled(self) -> None:
+        for language, standards in ("c", ("c99", "c11", "c17")), ("c++", ("c++11", "c++17", "c++20")):
+            for compiler in "gcc", "clang":
+                with self.subTest(compiler, language=language):
+                    if not can_compile(language, compiler):
+                        self.skipTest(f"{compiler} compiles nothing in {language}")
+                    for standard in standards:
+                        words = [compiler, "-x", language, f"-std={standard}", *WARN, "-c", "-o", os.devnull, "-"]
+                        self.expect(0, "", *words, input="#include <fv.h>\n")
 
 
 @needs_library

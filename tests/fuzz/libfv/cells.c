@@ -1,6 +1,5 @@
 /* SPDX-License-Identifier: BSD-2-Clause-Patent */
-/* Checks fv_volume_cells: the cells follow one another up to the end of the volume, and each cell agrees with its
- * bytes. */
+/* Checks fv_volume_cells (README.md says how). */
 #include "format.h"
 #include "rows.h"
 #include "volume.h"
@@ -76,5 +75,5 @@ void try_cells(struct volume *v)
     if (count > MOST_ROWS) return;
     v->cells = cells;
     check_cells(v);
-    saw(SEEN_CELLS, count > 20 ? 20 : (uint32_t)count, 0, 0);
+    saw(__func__, count > 20 ? 20 : (uint32_t)count, 0, 0);
 }

@@ -1,22 +1,10 @@
 /* SPDX-License-Identifier: BSD-2-Clause-Patent */
+#define _DEFAULT_SOURCE
 #include "mutate.h"
-
-static uint32_t state = 1;
-
-void seed_chance(uint32_t seed)
-{
-    state = seed * 2654435761u ^ 0x9e3779b9;
-    if (!state) state = 1;
-    chance();
-    chance();
-}
 
 uint32_t chance(void)
 {
-    state ^= state << 13;
-    state ^= state >> 17;
-    state ^= state << 5;
-    return state;
+    return (uint32_t)random();
 }
 
 uint32_t below(uint32_t n)

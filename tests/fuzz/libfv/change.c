@@ -4,32 +4,26 @@
  * lengths, which repair.c corrects. */
 #include "mutate.h"
 
-#define MOST_CELLS 64u
 #define MOST_FOUND 64u
-#define MOST_FILE 8192u
 
-/* Returns a random cell of the volume. `len` is 0 if there is no cell. */
-struct cell {
-    size_t at, len;
-};
-
-static struct cell any_cell(const uint8_t *volume, size_t len)
+/* Returns a random cell of the volume. Its length is 0 if there is no cell. */
+static struct place any_cell(const uint8_t *volume, size_t len)
 {
-    struct cell found[MOST_CELLS];
+    struct place found[MOST_FOUND];
     uint32_t count = 0;
     size_t at = first_cell(volume, len);
-    while (at + HEAD <= len && count < MOST_CELLS) {
+    while (at + HEAD <= len && count < MOST_FOUND) {
         uint64_t size = number_at(volume + at + SIZE, 3);
         if (volume[at + ATTRIBUTES] & LARGE && at + LARGE_HEAD <= len && !size)
             size = number_at(volume + at + LARGE_SIZE, 8);
         bool is_wrong = size < HEAD || size > len - at;
         bool is_free = (size & 0xFFFFFF) == 0xFFFFFF || size == 0;
         if (is_wrong && !is_free) break;
-        found[count++] = (struct cell){at, is_wrong ? len - at : size};
+        found[count++] = (struct place){at, is_wrong ? len - at : size};
         if (is_wrong) break;
         at = (at + size + 7) & ~(size_t)7;
     }
-    return count ? found[below(count)] : (struct cell){0, 0};
+    return count ? found[below(count)] : (struct place){0, 0};
 }
 
 struct place any_volume(const uint8_t *image, size_t len, bool is_nested)
@@ -46,108 +40,69 @@ struct place any_volume(const uint8_t *image, size_t len, bool is_nested)
     return count ? found[below(count)] : (struct place){0, 0};
 }
 
-static void put_section(uint8_t *section, uint8_t kind, size_t size)
+/* The bytes of all first inputs (seeds.py), from which files and volumes are taken. */
+extern const uint8_t _binary_stock_start[], _binary_stock_end[];
+
+/* Returns a random volume of the first inputs. Its length is 0 if none was found. */
+static struct input other_volume(void)
 {
-    put_number(section, 3, size);
-    section[SECTION_KIND] = kind;
+    const uint8_t *from = _binary_stock_start + below((uint32_t)(_binary_stock_end - _binary_stock_start));
+    struct place place = any_volume(from, (size_t)(_binary_stock_end - from), true);
+    return (struct input){from + place.at, place.len};
 }
 
-/* Writes the header of a file, without its name and checksums. */
-static void put_head(uint8_t *head, uint8_t kind, uint8_t attributes, size_t size, uint8_t state)
+/* Replaces the volume by another. */
+static size_t take_volume(uint8_t *volume, size_t len, size_t most)
 {
-    put_number(head + HEAD_SUM, 2, 0);
-    head[KIND] = kind;
-    head[ATTRIBUTES] = attributes;
-    put_number(head + SIZE, 3, size);
-    head[STATE] = state;
+    struct input other = other_volume();
+    if (!other.len || other.len > most) return len;
+    memcpy(volume, other.bytes, other.len);
+    return other.len;
 }
 
-static uint8_t section_kind(void)
+/* Puts a file of another volume before a cell, or before all cells. */
+static size_t add_file(uint8_t *volume, size_t len, size_t most, struct place cell)
 {
-    return ONE_OF(0x10, 0x11, DXE_EXPRESSION, DXE_EXPRESSION, 0x14, 0x15, 0x18, 0x19, PEI_EXPRESSION, 0x1C, 2, 1, GROUP,
-                  GROUP, VOLUME, 0x19);
-}
-
-/* Divides the data of a file into sections. */
-static void make_sections(uint8_t *file, size_t size)
-{
-    size_t at = HEAD;
-    while (at < size && size - at >= 4) {
-        size_t section = 4 + below(24);
-        if (section > size - at || size - at - section < 4) section = size - at;
-        uint8_t kind = section_kind();
-        put_section(file + at, kind, section);
-        if ((kind == DXE_EXPRESSION || kind == PEI_EXPRESSION) && section > 6) {
-            file[at + 4] = 6; /* TRUE, END */
-            file[at + 5] = 8;
-        }
-        at += (section + 3) & ~(size_t)3;
-    }
-}
-
-static size_t make_file(uint8_t *file, uint8_t erased)
-{
-    size_t body = one_in(5) ? below(700) : below(60);
-    if (one_in(200)) body = 3000 + below(3000);
-    size_t size = HEAD + body;
-    for (int i = 0; i < 16; i++) file[i] = (uint8_t)(below(3) ? 0x10 + below(4) : chance());
-    uint8_t kind = below(8) ? ONE_OF(1, 2, 2, 2, 3, 4, 5, 6, 7, 8, 9, 0x0B, 0x0B, 0xF0, 0xC0, 0x0D) : (uint8_t)chance();
-    uint8_t attributes = ONE_OF(0, 0, SUMMED, SUMMED, 0x08, 0x10, 0x28, 0x38, 0x02, 0x3A, 0x48, 0x80);
-    put_head(file, kind, attributes, size, ONE_OF(7, 7, 7, 7, 7, 7, 7, 7, 15, 15, 0x17, 3) ^ erased);
-    for (size_t i = HEAD; i < size; i++) file[i] = below(4) ? 0x5A : (uint8_t)chance();
-    if (kind != 1 && kind < 0x10) make_sections(file, size);
-    return size;
-}
-
-static size_t add_file(uint8_t *volume, size_t len, size_t most, struct cell cell)
-{
-    uint8_t file[MOST_FILE];
-    memset(file, erased_byte(volume), sizeof file);
-    size_t size = (make_file(file, erased_byte(volume)) + 7) & ~(size_t)7;
-    size_t at = cell.len && below(2) ? cell.at : first_cell(volume, len);
+    struct input other = other_volume();
+    struct place file = other.len ? any_cell(other.bytes, other.len) : (struct place){0, 0};
+    size_t at = cell.len && below(2) ? cell.at : first_cell(volume, len), size = (file.len + 7) & ~(size_t)7;
     if (at > len) at = LEAST_VOLUME;
     size_t new_len = open_gap(volume, len, most, at, size);
-    if (new_len > len) memcpy(volume + at, file, size);
-    return new_len;
-}
-
-/* Adds files without data before all other files. Their names differ in the last bytes. */
-static size_t add_small_files(uint8_t *volume, size_t len, size_t most)
-{
-    uint32_t count = 2 + below(200);
-    size_t at = first_cell(volume, len), new_len = open_gap(volume, len, most, at, (size_t)count * HEAD);
     if (new_len == len) return len;
-    uint8_t first_name = (uint8_t)chance(), last_bytes = (uint8_t)(1 + below(15));
-    for (uint32_t i = 0; i < count; i++) {
-        uint8_t *head = volume + at + (size_t)i * HEAD;
-        memset(head, first_name, 16);
-        for (int k = last_bytes; k < 16; k++) head[k] = (uint8_t)chance();
-        put_head(head, 1, 0, HEAD, 7 ^ erased_byte(volume));
-    }
+    memset(volume + at, erased_byte(volume), size);
+    memcpy(volume + at, other.bytes + file.at, file.len);
+    volume[at + STATE] ^= erased_byte(volume) ^ erased_byte(other.bytes);
     return new_len;
 }
 
-static size_t taken_by(struct cell cell, size_t len)
+static size_t taken_by(struct place cell, size_t len)
 {
     size_t taken = (cell.len + 7) & ~(size_t)7;
     return taken > len - cell.at ? len - cell.at : taken;
 }
 
-static size_t remove_cell(uint8_t *volume, size_t len, struct cell cell)
+static size_t remove_cell(uint8_t *volume, size_t len, struct place cell)
 {
     size_t taken = taken_by(cell, len);
     memmove(volume + cell.at, volume + cell.at + taken, len - cell.at - taken);
     return len - taken;
 }
 
-static size_t repeat_cell(uint8_t *volume, size_t len, size_t most, struct cell cell)
+/* Repeats a cell once, or often with other names. */
+static size_t repeat_cell(uint8_t *volume, size_t len, size_t most, struct place cell)
 {
     size_t taken = taken_by(cell, len);
-    size_t new_len = open_gap(volume, len, most, cell.at, taken);
-    if (new_len == len) return len;
-    memcpy(volume + cell.at, volume + cell.at + taken, taken);
-    if (below(2) && taken >= HEAD) volume[cell.at + STATE] = 15 ^ erased_byte(volume); /* marked for update */
-    return new_len;
+    if (taken < HEAD) return len;
+    uint32_t most_names = one_in(4) ? 200 : 1, names = most_names > 1 ? below(16) : 16;
+    for (uint32_t count = 1 + below(most_names); count > 0; count--) {
+        size_t new_len = open_gap(volume, len, most, cell.at, taken);
+        if (new_len == len) return len;
+        memcpy(volume + cell.at, volume + cell.at + taken, taken);
+        for (size_t i = names; i < 16; i++) volume[cell.at + i] = (uint8_t)chance();
+        if (most_names == 1 && below(2)) volume[cell.at + STATE] = 15 ^ erased_byte(volume); /* marked for update */
+        len = new_len;
+    }
+    return len;
 }
 
 static size_t add_free_space(uint8_t *volume, size_t len, size_t most)
@@ -164,100 +119,7 @@ static size_t cut_end(size_t len)
     return len > count + LEAST_VOLUME ? len - count : len;
 }
 
-static void turn_polarity(uint8_t *volume, size_t len)
-{
-    for (size_t i = LEAST_VOLUME; i < len; i++) volume[i] ^= 0xFF;
-    volume[POLARITY] ^= 8;
-}
-
-static void change_file_system(uint8_t *volume)
-{
-    if (below(2))
-        memcpy(volume + FILE_SYSTEM, file_systems[1], sizeof file_systems[1]);
-    else
-        volume[FILE_SYSTEM] ^= 2;
-}
-
-/* Puts the volume into a section. Now and then the section is put into a group. The result is put into a file of a new
- * volume. */
-static size_t nest(uint8_t *volume, size_t len, size_t most)
-{
-    if (len + 128 > most) return len;
-    size_t group = one_in(3) ? 4 : 0, lead = below(2) ? 8 : 0;
-    size_t before = LEAST_VOLUME + HEAD + lead + group + 4;
-    uint8_t erased = erased_byte(volume), *head = volume + LEAST_VOLUME, *section = head + HEAD;
-    memmove(volume + before, volume, len);
-    memset(volume + BLOCK_MAP, 0, before - BLOCK_MAP);
-    put_number(volume + HEADER_LENGTH, 2, LEAST_VOLUME);
-    put_number(volume + EXT_HEADER, 2, 0);
-    for (int i = 0; i < 16; i++) head[i] = (uint8_t)(0x30 + below(5));
-    put_head(head, 0x0B, ONE_OF(SUMMED, 0x08, 0), before - LEAST_VOLUME + len, 7 ^ erased);
-    if (lead) put_section(section, 0x19, lead);
-    section += lead;
-    if (group) put_section(section, GROUP, 8 + len);
-    put_section(section + group, VOLUME, 4 + len);
-    size_t end = (before + len + 7) & ~(size_t)7, room = 8 * below(12);
-    if (end + room > most) room = 0;
-    memset(volume + before + len, erased, end + room - before - len);
-    return end + room;
-}
-
-/* Gives the volume an extended header in a pad, or changes the size of its extended header. */
-static size_t change_ext_header(uint8_t *volume, size_t len, size_t most)
-{
-    size_t ext = number_at(volume + EXT_HEADER, 2);
-    if (ext) {
-        if (ext + 20 <= len)
-            put_number(volume + ext + 16, 4, 20 + below(64));
-        else
-            put_number(volume + EXT_HEADER, 2, 0);
-        return len;
-    }
-    size_t size = (HEAD + 20 + below(3) * 8 + 7) & ~(size_t)7;
-    uint8_t *pad = volume + LEAST_VOLUME, *header = pad + HEAD;
-    size_t new_len = open_gap(volume, len, most, LEAST_VOLUME, size);
-    if (new_len == len) return len;
-    memset(pad, 0, size);
-    memset(pad, 0xFF, 16);
-    put_head(pad, 0xF0, 0, size, 7 ^ erased_byte(volume));
-    put_number(volume + EXT_HEADER, 2, LEAST_VOLUME + HEAD);
-    for (int i = 0; i < 16; i++) header[i] = (uint8_t)chance();
-    put_number(header + 16, 4, below(3) ? 20 : size - HEAD);
-    if (size > 48) { /* an entry */
-        put_number(header + 20, 2, 4 + below(16));
-        put_number(header + 22, 2, below(4));
-    }
-    return new_len;
-}
-
-/* Changes the type or the size of a section of a file, if the cell is a file. */
-static void change_section(uint8_t *volume, size_t len, struct cell cell)
-{
-    size_t start = cell.at + HEAD, at = start, end = cell.at + cell.len;
-    for (uint32_t steps = below(6); steps > 0 && at + 4 <= end; steps--) {
-        size_t size = number_at(volume + at, 3);
-        if (size < 4 || at + size >= end) break;
-        at = start + ((at - start + size + 3) & ~(size_t)3);
-    }
-    if (at + 4 > len) return;
-    if (below(2))
-        volume[at + SECTION_KIND] = ONE_OF(1, 2, GROUP, GROUP, 0x10, DXE_EXPRESSION, 0x14, 0x15, VOLUME, 0x18, 0x19,
-                                           PEI_EXPRESSION, 0x1C, 0x20);
-    else
-        put_number(volume + at, 3, below(3) ? 4 + below(60) : 0xFFFFFF);
-}
-
-/* Gives a file the name of the volume top file, and now and then ends the volume after this file. */
-static size_t make_top_file(uint8_t *volume, size_t len, struct cell cell)
-{
-    static const uint8_t name[16] = {0x2e, 0x06, 0xa0, 0x1b, 0x79, 0xc7, 0x82, 0x45,
-                                     0x85, 0x66, 0x33, 0x6a, 0xe8, 0xf7, 0x8f, 0x09};
-    memcpy(volume + cell.at, name, sizeof name);
-    size_t end = (cell.at + cell.len + 7) & ~(size_t)7;
-    return below(2) && end <= len && end > LEAST_VOLUME ? end : len;
-}
-
-static void make_large(uint8_t *head, struct cell cell)
+static void make_large(uint8_t *head, struct place cell)
 {
     if (cell.len <= 56) return;
     head[ATTRIBUTES] |= LARGE;
@@ -266,12 +128,12 @@ static void make_large(uint8_t *head, struct cell cell)
 }
 
 /* Changes a field of a file's header. */
-static void change_head(uint8_t *head, struct cell cell, uint8_t erased)
+static void change_head(uint8_t *head, struct place cell, uint8_t erased)
 {
     switch (below(5)) {
     case 0:
         head[ATTRIBUTES] ^=
-            ONE_OF(0, 8, 0x10, 0x18, 0x20, 0x28, 0x30, 0x38, 2, 0x0A, 0x12, 0x1A, 0x22, 0x2A, 0x40, 0x80);
+            ONE_OF(FIXED, 8, 0x10, 0x18, 0x20, 0x28, 0x30, 0x38, 2, 0x0A, 0x12, 0x1A, 0x22, 0x2A, 0x40, 0x80);
         break;
     case 1: head[KIND] = (uint8_t)(below(3) ? below(16) : chance()); break;
     case 2: head[STATE] = ONE_OF(7, 15, 0x17, 0x1F, 1, 3, 0x27, 0x2F, 0x3F, 0) ^ erased; break;
@@ -280,13 +142,11 @@ static void change_head(uint8_t *head, struct cell cell, uint8_t erased)
     }
 }
 
-static size_t change_cell(uint8_t *volume, size_t len, size_t most, struct cell cell)
+static size_t change_cell(uint8_t *volume, size_t len, size_t most, struct place cell)
 {
-    switch (below(9)) {
+    switch (below(7)) {
     case 0: return remove_cell(volume, len, cell);
     case 1: return repeat_cell(volume, len, most, cell);
-    case 2: return make_top_file(volume, len, cell);
-    case 3: change_section(volume, len, cell); return len;
     default: change_head(volume + cell.at, cell, erased_byte(volume)); return len;
     }
 }
@@ -296,32 +156,28 @@ void change_inside(uint8_t *volume, size_t len)
     struct place place = any_volume(volume, len, true);
     if (!place.len) return;
     uint8_t *nested = volume + place.at;
-    struct cell cell = any_cell(nested, place.len);
+    struct place cell = any_cell(nested, place.len);
     if (!cell.len) return;
-    switch (below(3)) {
-    case 0: change_head(nested + cell.at, cell, erased_byte(nested)); break;
-    case 1: change_section(nested, place.len, cell); break;
-    default: nested[cell.at + below((uint32_t)cell.len)] ^= (uint8_t)(1 << below(8));
-    }
+    if (one_in(3))
+        change_head(nested + cell.at, cell, erased_byte(nested));
+    else
+        nested[cell.at + below((uint32_t)cell.len)] ^= (uint8_t)(1 << below(8));
 }
 
 size_t change_volume(uint8_t *volume, size_t len, size_t most)
 {
     if (len < LEAST_VOLUME) return LLVMFuzzerMutate(volume, len, most);
-    struct cell cell = any_cell(volume, len);
-    switch (below(20)) {
+    struct place cell = any_cell(volume, len);
+    switch (below(16)) {
     case 0:
-    case 1: return add_file(volume, len, most, cell);
+    case 1:
+    case 7: return add_file(volume, len, most, cell);
     case 2: return add_free_space(volume, len, most);
     case 3: return cut_end(len);
-    case 4: turn_polarity(volume, len); return len;
-    case 5: change_file_system(volume); return len;
-    case 6: return nest(volume, len, most);
-    case 7: return change_ext_header(volume, len, most);
-    case 8: volume[SIGNATURE + below(16)] ^= (uint8_t)(1 << below(8)); return len;
-    case 9: change_inside(volume, len); return len;
-    case 10: return one_in(4) ? add_small_files(volume, len, most) : add_file(volume, len, most, cell);
-    case 11: return LLVMFuzzerMutate(volume, len, most);
+    case 4: return take_volume(volume, len, most);
+    case 5: volume[SIGNATURE + below(16)] ^= (uint8_t)(1 << below(8)); return len;
+    case 6: change_inside(volume, len); return len;
+    case 8: return LLVMFuzzerMutate(volume, len, most);
     default: return cell.len ? change_cell(volume, len, most, cell) : len;
     }
 }

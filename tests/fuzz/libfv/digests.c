@@ -1,6 +1,5 @@
 /* SPDX-License-Identifier: BSD-2-Clause-Patent */
-/* Checks fv_volume_tree_digests: the digest of a row is the SHA-256 of its bytes in the image, whose tree has the same
- * rows. */
+/* Checks fv_volume_tree_digests (README.md says how). */
 #include "rows.h"
 #include "volume.h"
 

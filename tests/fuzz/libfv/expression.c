@@ -4,7 +4,7 @@
 #include "harness.h"
 
 enum { BEFORE, AFTER, PUSH, AND, OR, NOT, TRUE, FALSE, END, SOR };
-#define MOST_STACK 65536u
+#define MOST_STACK (MOST_INPUT + 1) /* an op adds at most one value */
 
 struct evaluation {
     const uint8_t *bytes;
@@ -58,10 +58,7 @@ static void apply(struct evaluation *e, uint8_t op)
     }
 }
 
-/* The result for an expression that needs more than the harness's stack. */
-#define UNKNOWN UINT32_MAX
-
-/* Returns the result, with the value or the place of the fault, or UNKNOWN. */
+/* Returns the result, with the value or the place of the fault. */
 static fv_result evaluate(struct evaluation *e, uint32_t *value)
 {
     uint8_t before = END;
@@ -69,13 +66,12 @@ static fv_result evaluate(struct evaluation *e, uint32_t *value)
         if (e->at >= e->len) return FV_FAULT_DEPEX_NO_END;
         uint8_t op = e->bytes[e->at];
         fv_result fault = fault_of(e, op);
-        saw(SEEN_OP, before * 16u + (op > SOR ? SOR + 1 : op), fault, e->height > 4 ? 4 : e->height);
+        saw(__func__, before * 16u + (op > SOR ? SOR + 1 : op), fault, e->height > 4 ? 4 : e->height);
         if (fault) return fault;
         if (op == END) {
             *value = e->is_closed ? FV_DEPEX_ORDER : e->stack[0];
             return FV_OK;
         }
-        if (e->height + 1 >= MOST_STACK) return UNKNOWN;
         apply(e, op);
         before = op;
         e->at += has_guid(op) ? 17 : 1;
@@ -90,18 +86,15 @@ static void try_phase(struct evaluation *e, uint32_t phase, const uint8_t *param
     e->is_pei = phase == FV_PHASE_PEI;
     e->is_closed = false;
     fv_result wanted = evaluate(e, &expected);
-    if (wanted == UNKNOWN) return;
     fv_result result = fv_depex_evaluate(e->bytes, e->len, phase, e->installed, e->installed_count, &value, &fault);
     check_no_block_is_kept("depex");
-    saw(SEEN_EXPRESSION, result, e->is_pei, e->at > 40 ? 40 : e->at);
+    saw(__func__, result, e->is_pei, e->at > 40 ? 40 : e->at);
     CHECK(result == wanted, "depex: %u, not %u at %zu", result, wanted, e->at);
     CHECK(value == expected, "depex: value %u, not %u", value, expected);
+    check_result("depex", result, &fault, FV_FAULT_DEPEX_POSITION, e->len);
     if (result)
-        CHECK(fault.result == result && fault.offset == e->at && !fault.depth && !fault.input && !fault.reserved,
-              "depex: fault %u at %lu, not %u at %zu", fault.result, fault.offset, wanted, e->at);
-    else
-        CHECK(is_no_fault(&fault), "depex: no fault, and fault %u", fault.result);
-    CHECK(fv_result_text(result)[0], "depex: result %u has no text", result);
+        CHECK(fault.offset == e->at && !fault.depth && !fault.input, "depex: fault %u at %lu, not at %zu", result,
+              fault.offset, e->at);
     fv_fault *unless_null = FAULT_OR_NULL(parameters, &fault);
     value = UNTOUCHED;
     refuse_allocation(parameters[REFUSED]);

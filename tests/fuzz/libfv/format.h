@@ -22,7 +22,7 @@ enum {
 };
 enum { HEAD_SUM = 16, FILE_SUM = 17, KIND = 18, ATTRIBUTES = 19, SIZE = 20, STATE = 23, LARGE_SIZE = 24, HEAD = 24 };
 enum { LARGE = 0x01, FIXED = 0x04, SUMMED = 0x40 };
-enum { GROUP = 0x03, VOLUME = 0x17, DXE_EXPRESSION = 0x13, PEI_EXPRESSION = 0x1B };
+enum { GROUP = 0x03, VOLUME = 0x17 };
 #define SECTION_KIND 3
 #define LARGE_HEAD 32u
 

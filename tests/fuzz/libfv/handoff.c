@@ -16,7 +16,7 @@ static void check_block(const uint8_t *bytes, const fv_hob *block, uint64_t numb
     CHECK(!memcmp(block, &expected, sizeof expected), "hobs: number %lu is not that of its bytes", number);
     CHECK(block->hob_length >= 8 && block->hob_length % 8 == 0, "hobs: number %lu has %u bytes", number,
           block->hob_length);
-    saw(SEEN_BLOCK, block->hob_type, 0, 0);
+    saw(__func__, block->hob_type, 0, 0);
 }
 
 static size_t list_length;
@@ -52,12 +52,10 @@ void try_hand_off_list(const uint8_t *bytes, size_t len, const uint8_t *paramete
     size_t count;
     fv_fault fault;
     fv_result result = try_rows(&rows, blocks, &count, &fault);
-    saw(SEEN_LIST, result, count > 12 ? 12 : (uint32_t)count, 0);
+    saw(__func__, result, count > 12 ? 12 : (uint32_t)count, 0);
     if (result) {
-        CHECK(result >= FV_FAULT_HOB_SHORT && result <= FV_FAULT_HOB_NO_END && fault.result == result &&
-                  fault.offset <= len && !fault.depth && !fault.input && !fault.reserved,
-              "hobs: %u, and fault %u at %lu", result, fault.result, fault.offset);
-        CHECK(fv_result_text(result)[0], "hobs: result %u has no text", result);
+        check_result("hobs", result, &fault, FV_FAULT_HOB_NO_END, len);
+        CHECK(result >= FV_FAULT_HOB_SHORT && !fault.depth && !fault.input, "hobs: %u, depth %u", result, fault.depth);
         return;
     }
     CHECK(count, "hobs: no block, and no room for it");

@@ -36,7 +36,6 @@ enum { AS_VOLUME, AS_IMAGE = 3, AS_EXPRESSION, AS_HAND_OFF_LIST, AS_PAIR, AS_IMA
 
 /* The value of each byte that a call must not change. */
 #define UNTOUCHED 0xC3
-#define UNTOUCHED_32 0xC3C3C3C3u
 #define UNTOUCHED_64 UINT64_C(0xC3C3C3C3C3C3C3C3)
 
 /* The address for the fault of a call, or now and then NULL. */
@@ -67,27 +66,8 @@ struct input {
 };
 bool try_comparison(struct input a, struct input b, const uint8_t *parameters);
 
-/* The results that the harness itself reports as reached, and the function that counts such a result as a further
- * result that an input can reach (coverage.c). */
-enum {
-    SEEN_HEADER,
-    SEEN_NORMALISE,
-    SEEN_CELLS,
-    SEEN_ROW,
-    SEEN_TREE,
-    SEEN_PART,
-    SEEN_SCAN,
-    SEEN_IMAGE,
-    SEEN_CHECK,
-    SEEN_EXPRESSION,
-    SEEN_OP,
-    SEEN_LIST,
-    SEEN_BLOCK,
-    SEEN_UNFIX,
-    SEEN_PAIR,
-    SEEN_DIFFERENCE
-};
-void saw(uint32_t what, uint32_t a, uint32_t b, uint64_t c);
+/* Counts these numbers, which a function has seen, as a further result that an input can reach (coverage.c). */
+void saw(const char *function, uint32_t a, uint32_t b, uint64_t c);
 
 /* Returns whether all of these bytes have this value. */
 bool is_all(const void *bytes, size_t len, uint8_t value);
@@ -137,7 +117,6 @@ extern const fv_fault unset_fault;
 
 /* Returns whether a call with this result has written its counts. */
 bool is_counted(fv_result result);
-bool is_no_fault(const fv_fault *fault);
 bool is_same_fault(const fv_fault *a, const fv_fault *b);
 
 /* Checks that the result is 0 without a fault, or a number from 1 to `most` that is also in `fault`, with its place in

@@ -1,49 +1,58 @@
 /* SPDX-License-Identifier: BSD-2-Clause-Patent */
 /* The three functions with which the library gets and returns memory. They find wrong uses of a block. Each block is at
  * the end of a room, and the page after it cannot be touched. The bytes around the block are checked when it is
- * returned, and its room is used again as late as possible. Blocks that do not fit into a room come from malloc. */
+ * returned, and its room is used again as late as possible. */
 #define _GNU_SOURCE
 #include "harness.h"
 #include <sys/mman.h>
 
 #define PAGE 4096u
-#define ROOMS 512u
-#define ROOM (64u << 10)
+#define ROOMS 16384u
+#define RESTING 256u /* the number of rooms that are empty before a room is used again */
+#define ROOM ((size_t)8 << 20)
 #define STRIDE (ROOM + PAGE)
 #define FENCE 32u /* the number of checked bytes before and after a block */
 #define FENCED 0xFD
 #define NEW 0xA5
 #define RETURNED 0xDE
-#define LIVE UINT64_C(0x05ca1ab1e0ddba11)
-#define DEAD UINT64_C(0xdeaddeaddeaddead)
 
 struct tried {
     bool ok;
     uint8_t *p;
 };
 
-/* The header before a block from malloc. */
-struct head {
-    uint64_t magic;
-    size_t len;
-};
-
 static uint8_t nothing;
 static uint8_t *rooms;
 static size_t len_in[ROOMS];                      /* of the block in a room, or 0 */
-static uint32_t queue[ROOMS], queue_from, queued; /* the empty rooms, the longest empty room first */
-static long live, refuse_in = -1, refuse_by;
+static uint32_t opened;                           /* the number of rooms that were used */
+static uint32_t queue[ROOMS], queue_from, queued; /* the empty rooms of these, the longest empty room first */
+static long refuse_in = -1, refuse_by;
 unsigned long allocations, refusals;
+
+static uint8_t *end_of_room(uint32_t room)
+{
+    return rooms + room * STRIDE + ROOM;
+}
 
 void open_heap(void)
 {
-    rooms = mmap(NULL, (size_t)ROOMS * STRIDE + PAGE, PROT_NONE, MAP_PRIVATE | MAP_ANONYMOUS, -1, 0);
+    rooms = mmap(NULL, ROOMS * STRIDE, PROT_NONE, MAP_PRIVATE | MAP_ANONYMOUS | MAP_NORESERVE, -1, 0);
     if (rooms == MAP_FAILED) abort();
-    rooms += PAGE;
-    for (uint32_t room = 0; room < ROOMS; room++) {
-        if (mprotect(rooms + (size_t)room * STRIDE, ROOM, PROT_READ | PROT_WRITE)) abort();
-        queue[queued++] = room;
+}
+
+/* Returns a room that is empty. */
+static uint32_t empty_room(void)
+{
+    uint32_t room = opened;
+    if (queued < RESTING && opened < ROOMS) {
+        if (mprotect(end_of_room(opened++) - ROOM, ROOM, PROT_READ | PROT_WRITE)) abort();
+        return room;
     }
+    CHECK(queued, "the harness has no room for more than %u blocks", ROOMS);
+    room = queue[queue_from];
+    queue_from = (queue_from + 1) % ROOMS;
+    queued--;
+    return room;
 }
 
 void refuse_allocation(unsigned number)
@@ -65,7 +74,7 @@ bool end_refusal(void)
 
 void check_no_block_is_kept(const char *call)
 {
-    CHECK(live == 0, "%s: %ld blocks are kept", call, live);
+    CHECK(queued == opened, "%s: %u blocks are kept", call, opened - queued);
 }
 
 /* Returns whether this allocation is refused. After a refusal `refuse_in` is -1, which end_refusal reads. */
@@ -77,114 +86,53 @@ static bool is_refused(void)
     return true;
 }
 
-static bool is_in_room(const uint8_t *block)
-{
-    return block >= rooms && block < rooms + (size_t)ROOMS * STRIDE;
-}
-
 static uint32_t room_of(const uint8_t *block)
 {
     return (uint32_t)((size_t)(block - rooms) / STRIDE);
 }
 
-static uint8_t *end_of_room(uint32_t room)
+static struct tried take(size_t len, size_t alignment)
 {
-    return rooms + (size_t)room * STRIDE + ROOM;
-}
-
-static struct head *head_of(uint8_t *block)
-{
-    return (struct head *)(void *)(block - sizeof(struct head));
-}
-
-static size_t len_of(uint8_t *block)
-{
-    return is_in_room(block) ? len_in[room_of(block)] : head_of(block)->len;
-}
-
-static uint8_t *take_room(size_t len, size_t taken)
-{
-    uint32_t room = queue[queue_from];
-    queue_from = (queue_from + 1) % ROOMS;
-    queued--;
+    if (is_refused()) return (struct tried){false, &nothing};
+    CHECK(alignment >= 1 && alignment <= 16 && !(alignment & (alignment - 1)), "an alignment of %zu", alignment);
+    CHECK(len < ROOM - 2 * FENCE, "the harness has no room for a block of %zu bytes", len);
+    if (!len) len = alignment;
+    uint32_t room = empty_room();
     len_in[room] = len;
+    size_t taken = (len + alignment - 1) / alignment * alignment;
     uint8_t *block = end_of_room(room) - taken;
     memset(block - FENCE, FENCED, FENCE);
-    memset(block + len, FENCED, taken - len);
-    return block;
-}
-
-static uint8_t *take_malloc(size_t len)
-{
-    struct head *head = malloc(sizeof *head + len + FENCE);
-    if (!head) return NULL;
-    *head = (struct head){LIVE, len};
-    uint8_t *block = (uint8_t *)(head + 1);
-    memset(block + len, FENCED, FENCE);
-    return block;
-}
-
-static uint8_t *take(size_t len, size_t alignment)
-{
-    CHECK(alignment >= 1 && alignment <= 16 && !(alignment & (alignment - 1)), "an alignment of %zu", alignment);
-    if (!len) len = alignment;
-    size_t taken = (len + alignment - 1) / alignment * alignment;
-    uint8_t *block = taken + FENCE <= ROOM && queued ? take_room(len, taken) : take_malloc(len);
-    if (!block) return NULL;
     memset(block, NEW, len);
-    live++;
-    return block;
-}
-
-static void return_room(uint8_t *block)
-{
-    uint32_t room = room_of(block);
-    size_t len = len_in[room];
-    CHECK(len, "a block is returned twice");
-    CHECK(block + len <= end_of_room(room) && block + len + 16 > end_of_room(room), "what is returned is no block");
-    CHECK(is_all(block - FENCE, FENCE, FENCED), "bytes before a block of %zu were written", len);
-    CHECK(is_all(block + len, (size_t)(end_of_room(room) - block) - len, FENCED), "bytes after a block of %zu", len);
-    memset(block, RETURNED, len);
-    len_in[room] = 0;
-    queue[(queue_from + queued++) % ROOMS] = room;
-}
-
-static void return_malloc(uint8_t *block)
-{
-    struct head *head = head_of(block);
-    CHECK(head->magic == LIVE, "what is returned is no block");
-    CHECK(is_all(block + head->len, FENCE, FENCED), "bytes after a block of %zu were written", head->len);
-    head->magic = DEAD;
-    free(head);
-}
-
-static struct tried tried(uint8_t *block)
-{
-    return (struct tried){.ok = block != NULL, .p = block ? block : &nothing};
+    memset(block + len, FENCED, taken - len);
+    return (struct tried){true, block};
 }
 
 struct tried rattle_alloc(size_t n, size_t a)
 {
-    return tried(is_refused() ? NULL : take(n, a));
+    return take(n, a);
 }
 
 void rattle_dealloc(uint8_t *p)
 {
-    live--;
-    if (is_in_room(p))
-        return_room(p);
-    else
-        return_malloc(p);
+    uint32_t room = room_of(p);
+    CHECK(p >= rooms && room < ROOMS, "what is returned is no block");
+    size_t len = len_in[room];
+    CHECK(len, "a block is returned twice");
+    CHECK(p + len <= end_of_room(room) && p + len + 16 > end_of_room(room), "what is returned is no block");
+    CHECK(is_all(p - FENCE, FENCE, FENCED), "bytes before a block of %zu were written", len);
+    CHECK(is_all(p + len, (size_t)(end_of_room(room) - p) - len, FENCED), "bytes after a block of %zu", len);
+    memset(p, RETURNED, len);
+    len_in[room] = 0;
+    queue[(queue_from + queued++) % ROOMS] = room;
 }
 
 struct tried rattle_realloc(uint8_t *p, size_t kept, size_t n, size_t a)
 {
-    if (is_refused()) return tried(NULL);
-    size_t old = len_of(p);
+    struct tried block = take(n, a);
+    if (!block.ok) return block;
+    size_t old = len_in[room_of(p)];
     CHECK(kept <= old, "%zu bytes of a block of %zu are to be kept", kept, old);
-    uint8_t *block = take(n, a);
-    if (!block) return tried(NULL);
-    memcpy(block, p, kept < n ? kept : n);
+    memcpy(block.p, p, kept < n ? kept : n);
     rattle_dealloc(p);
-    return tried(block);
+    return block;
 }

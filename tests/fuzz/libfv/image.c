@@ -1,7 +1,5 @@
 /* SPDX-License-Identifier: BSD-2-Clause-Patent */
-/* Checks fv_image_scan, fv_image_normalise and fv_image_check: each volume is found, its row agrees with its header,
- * and nothing else is found. Each volume is replaced by its image. The result of a volume's check is the result of
- * fv_volume_is_canonical. */
+/* Checks fv_image_scan, fv_image_normalise and fv_image_check (README.md says how). */
 #include "harness.h"
 #include "rows.h"
 
@@ -66,7 +64,7 @@ static void try_image_normalise(const uint8_t *bytes, size_t len, size_t count, 
     check_result("image_normalise", result, &fault, FV_FAULT_TOP_ALIGNMENT, len);
     CHECK(result == otherwise && is_same_fault(&fault, &usual), "image_normalise: fault %u at %lu, not %u at %lu",
           result, fault.offset, otherwise, usual.offset);
-    saw(SEEN_IMAGE, result, fault.depth, count > 4 ? 4 : count);
+    saw(__func__, result, fault.depth, count > 4 ? 4 : count);
     CHECK(result || !memcmp(image, expected, len), "image_normalise: not the images of the volumes");
 }
 
@@ -82,7 +80,7 @@ static void check_row(const uint8_t *bytes, size_t number, const fv_volume_check
     CHECK(row->canonical == canonical && row->fault.result == result && is_same_fault(&row->fault, &fault),
           "image_check: number %lu: %u, fault %u at %lu, not %u, fault %u at %lu", number, row->canonical,
           row->fault.result, row->fault.offset, canonical, result, fault.offset);
-    saw(SEEN_CHECK, number > 3 ? 3 : (uint32_t)number, result, canonical);
+    saw(__func__, number > 3 ? 3 : (uint32_t)number, result, canonical);
 }
 
 ROWS_CALL(check, fv_image_check)
@@ -108,7 +106,7 @@ void try_image(const uint8_t *bytes, size_t len, const uint8_t *parameters)
     fv_result result = try_rows(&rows, headers, &count, &fault);
     CHECK(result == FV_OK, "image_scan: %u", result);
     if (count > MOST_VOLUMES) return;
-    saw(SEEN_SCAN, count > 9 ? 9 : (uint32_t)count, 0, 0);
+    saw(__func__, count > 9 ? 9 : (uint32_t)count, 0, 0);
     try_image_normalise(bytes, len, count, parameters);
     try_image_check(bytes, len, count, parameters);
 }

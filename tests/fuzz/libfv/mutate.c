@@ -1,6 +1,7 @@
 /* SPDX-License-Identifier: BSD-2-Clause-Patent */
 /* The mutator that libFuzzer calls. It changes a volume, an op or a block in an input, depending on the kind of the
  * input, and has checksums and lengths corrected. */
+#define _DEFAULT_SOURCE
 #include "mutate.h"
 
 /* The largest number of bytes of the data of an input, and of a changed volume in a flash image. */
@@ -46,33 +47,19 @@ static size_t change_expression(uint8_t *ops, size_t len, size_t most)
     }
 }
 
-static size_t mutate_expression(uint8_t *ops, size_t len, size_t most)
+/* Repeats a block of a hand-off list, with another code or other bytes. */
+static size_t repeat_block(uint8_t *list, size_t len, size_t most)
 {
-    for (uint32_t i = how_often(); i > 0; i--) len = change_expression(ops, len, most);
-    return len;
-}
-
-/* Puts a block into a hand-off list, after its first blocks. */
-static size_t add_block(uint8_t *list, size_t len, size_t most)
-{
-    static const struct {
-        uint16_t code, len;
-    } usual[] = {{1, 56}, {2, 48}, {3, 48},  {4, 24},  {5, 24},     {6, 16},
-                 {7, 8},  {9, 56}, {11, 24}, {12, 40}, {0xFFFE, 16}};
-    uint8_t block[64] = {0};
-    uint32_t choice = below(sizeof usual / sizeof *usual);
-    uint32_t size = usual[choice].len + 8u * one_in(4);
-    put_number(block, 2, usual[choice].code);
-    put_number(block + 2, 2, size);
-    for (uint32_t i = 8; i < size; i++) block[i] = (uint8_t)chance();
-    size_t at = 56;
-    for (uint32_t steps = below(5); steps > 0 && at + 8 <= len; steps--) {
-        size_t before = number_at(list + at + 2, 2);
-        if (before < 8 || at + before >= len) break;
-        at += before;
+    size_t at = 56, size = number_at(list + at + 2, 2);
+    for (uint32_t steps = below(5); steps > 0 && size >= 8 && at + size + 8 <= len; steps--) {
+        at += size;
+        size = number_at(list + at + 2, 2);
     }
-    size_t new_len = open_gap(list, len, most, at, size);
-    if (new_len > len) memcpy(list + at, block, size);
+    size_t new_len = size >= 8 && size <= len - at ? open_gap(list, len, most, at, size) : len;
+    if (new_len == len) return LLVMFuzzerMutate(list, len, most);
+    memcpy(list + at, list + at + size, size);
+    if (one_in(2)) put_number(list + at, 2, 1 + below(12));
+    for (size_t i = 8; i < size; i++) list[at + i] = (uint8_t)chance();
     return new_len;
 }
 
@@ -140,9 +127,11 @@ static size_t mutate_data(uint8_t *data, size_t len, size_t most, uint8_t *param
 {
     uint8_t mode = parameters[MODE] % MODES;
     switch (mode) {
-    case AS_EXPRESSION: return mutate_expression(data, len, most);
+    case AS_EXPRESSION:
+        for (uint32_t i = how_often(); i > 0; i--) len = change_expression(data, len, most);
+        return len;
     case AS_HAND_OFF_LIST:
-        return len >= 64 && one_in(3) ? add_block(data, len, most) : LLVMFuzzerMutate(data, len, most);
+        return len >= 64 && one_in(3) ? repeat_block(data, len, most) : LLVMFuzzerMutate(data, len, most);
     case AS_IMAGE:
     case AS_PAIR: return mutate_image(data, len, most, parameters);
     case AS_IMAGE_AND_VOLUME:
@@ -154,7 +143,7 @@ static size_t mutate_data(uint8_t *data, size_t len, size_t most, uint8_t *param
 
 size_t LLVMFuzzerCustomMutator(uint8_t *data, size_t size, size_t most, unsigned seed)
 {
-    seed_chance(seed);
+    srandom(seed);
     if (most <= PARAMETERS) return LLVMFuzzerMutate(data, size, most);
     if (size < PARAMETERS) {
         memset(data, 0, PARAMETERS);

@@ -9,8 +9,7 @@
 /* libFuzzer's own mutator. */
 size_t LLVMFuzzerMutate(uint8_t *data, size_t size, size_t most);
 
-void seed_chance(uint32_t seed);
-uint32_t chance(void);
+uint32_t chance(void);      /* 31 bits */
 uint32_t below(uint32_t n); /* from 0 */
 bool one_in(uint32_t n);
 uint8_t one_of(const uint8_t *choices, size_t count);

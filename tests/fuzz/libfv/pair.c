@@ -1,6 +1,5 @@
 /* SPDX-License-Identifier: BSD-2-Clause-Patent */
-/* Checks fv_volume_compare: the result is the same both ways, and two volumes are the same if their digests are
- * equal. */
+/* Checks fv_volume_compare (README.md says how). */
 #define _GNU_SOURCE
 #include "rows.h"
 
@@ -44,7 +43,7 @@ static void saw_difference(const char *text)
     uint32_t hash = 0;
     for (; *text; text++)
         if (*text < '0' || *text > '9') hash = hash * 31 + (uint8_t)*text;
-    saw(SEEN_DIFFERENCE, hash, 0, 0);
+    saw(__func__, hash, 0, 0);
 }
 
 static void check_digests(struct input a, struct input b)
@@ -98,7 +97,7 @@ bool try_comparison(struct input a, struct input b, const uint8_t *parameters)
     CHECK(!result == !back, "compare: %u, and the other way %u", result, back);
     CHECK(!memcmp(&found, &found_back, sizeof found) && !strncmp(text, other, sizeof text), "compare: both ways");
     /* Other inputs are also compared, with themselves. They are not kept for that. */
-    if (parameters[MODE] % MODES == AS_PAIR) saw(SEEN_PAIR, result, fault.input, 0);
+    if (parameters[MODE] % MODES == AS_PAIR) saw(__func__, result, fault.input, 0);
     if (result) {
         check_fault(a, b, result, &fault);
         return false;

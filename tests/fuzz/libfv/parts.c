@@ -1,6 +1,5 @@
 /* SPDX-License-Identifier: BSD-2-Clause-Patent */
-/* Checks fv_volume_extract: the part of a row has the bytes that the image has for that row, at every level, and the
- * part of the first row is the image. */
+/* Checks fv_volume_extract (README.md says how). */
 #include "rows.h"
 #include "volume.h"
 
@@ -66,7 +65,7 @@ static void try_part(const struct volume *v, size_t row)
     size_t length;
     fv_fault fault;
     fv_result result = try_row(v, row, &length, &fault);
-    saw(SEEN_PART, result, node->kind * 4 + node->content, node->depth);
+    saw(__func__, result, node->kind * 4 + node->content, node->depth);
     if (result) {
         check_no_part(v, row, result, &fault);
         return;

@@ -12,23 +12,15 @@ static uint8_t sum_of(const uint8_t *bytes, size_t len)
     return sum;
 }
 
-/* Returns the size of the section at the start of the bytes. A size that is too small or too large is corrected.
- * Returns 0 if it is left wrong. */
-static size_t repair_size(uint8_t *section, size_t left, size_t *header)
+/* Returns the size in a field. A size that is too small or too large is replaced by the wanted size. Returns 0 if it is
+ * left wrong. */
+static size_t repair_size(uint8_t *field, int width, size_t least, size_t most, size_t wanted)
 {
-    uint64_t size = number_at(section, 3);
-    *header = 4;
-    if (size == 0xFFFFFF && left >= 8) {
-        size = number_at(section + 4, 4);
-        *header = 8;
-    }
-    if (size >= *header && size <= left) return size;
-    if (one_in(4) || left < *header) return 0;
-    if (*header == 8)
-        put_number(section + 4, 4, left);
-    else if (left < 0xFFFFFF)
-        put_number(section, 3, left);
-    return left;
+    uint64_t size = number_at(field, width);
+    if (size >= least && size <= most) return size;
+    if (one_in(6)) return 0;
+    put_number(field, width, wanted);
+    return wanted;
 }
 
 static void repair_sections(uint8_t *bytes, size_t len, int depth)
@@ -36,7 +28,9 @@ static void repair_sections(uint8_t *bytes, size_t len, int depth)
     size_t at = 0, header;
     while (at < len && len - at >= 4) {
         uint8_t *section = bytes + at;
-        size_t size = repair_size(section, len - at, &header);
+        bool is_extended = number_at(section, 3) == 0xFFFFFF && len - at >= 8;
+        header = is_extended ? 8 : 4;
+        size_t size = repair_size(is_extended ? section + 4 : section, is_extended ? 4 : 3, header, len - at, len - at);
         if (!size) return;
         uint8_t kind = section[SECTION_KIND];
         if (kind == VOLUME)
@@ -97,25 +91,15 @@ static void repair_state(uint8_t *head, uint8_t erased)
     if (!is_usual && !one_in(8)) head[STATE] = ONE_OF(7, 7, 7, 7, 15, 0x17, 1, 3) ^ erased;
 }
 
-/* Returns the size of a file. A size that is too small or too large is corrected. Returns 0 if it is left wrong. */
+/* Returns the size of a file, and the size of its header. Returns 0 if the size is left wrong. */
 static size_t repair_file_size(uint8_t *head, size_t left, size_t *header)
 {
-    uint64_t size = number_at(head + SIZE, 3);
-    *header = HEAD;
-    if (head[ATTRIBUTES] & LARGE && left >= LARGE_HEAD) {
-        *header = LARGE_HEAD;
-        size = number_at(head + LARGE_SIZE, 8);
-        if (!one_in(16)) put_number(head + SIZE, 3, 0);
-    }
-    if (size >= *header && size <= left) return size;
-    if (one_in(8)) return 0;
-    size = *header + below(64);
-    if (size > left) size = left;
-    if (*header == LARGE_HEAD)
-        put_number(head + LARGE_SIZE, 8, size);
-    else
-        put_number(head + SIZE, 3, size);
-    return size;
+    bool is_large = head[ATTRIBUTES] & LARGE && left >= LARGE_HEAD;
+    *header = is_large ? LARGE_HEAD : HEAD;
+    size_t wanted = *header + below(64);
+    if (wanted > left) wanted = left;
+    if (is_large && !one_in(16)) put_number(head + SIZE, 3, 0);
+    return repair_size(head + (is_large ? LARGE_SIZE : SIZE), is_large ? 8 : 3, *header, left, wanted);
 }
 
 static void repair_file_sums(uint8_t *head, size_t header, size_t size)
@@ -137,7 +121,7 @@ static size_t repair_file(uint8_t *volume, size_t len, size_t at, uint8_t erased
     if (!size) return len;
     uint8_t state = head[STATE] ^ erased;
     if (state & 1 && !(state & 2)) size = header = HEAD; /* a header that was never finished */
-    if (!one_in(10)) head[ATTRIBUTES] &= (uint8_t)~FIXED;
+    if (!one_in(3)) head[ATTRIBUTES] &= (uint8_t)~FIXED;
     uint8_t kind = head[KIND];
     bool has_sections = kind >= 2 && kind <= 0x0F && !(kind == 3 && below(2));
     if (has_sections) repair_sections(head + header, size - header, depth);

@@ -28,7 +28,7 @@ bool is_counted(fv_result result)
     return result == FV_OK || result == FV_BUFFER_TOO_SMALL;
 }
 
-bool is_no_fault(const fv_fault *fault)
+static bool is_no_fault(const fv_fault *fault)
 {
     return is_all(fault, sizeof *fault, 0);
 }

@@ -1,9 +1,9 @@
 #!/usr/bin/env python3
 # SPDX-License-Identifier: BSD-2-Clause-Patent
 """seeds.py FOLDER: writes the first inputs of the fuzzer, always the same, each after the parameters that harness.h
-describes. FOLDER/seeds gets volumes, flash images, hand-off lists and expressions as tests/fuzz/cases.py makes them.
-FOLDER/few gets an empty volume and an expression of two ops. The mutator itself has to reach all other inputs from
-these two."""
+describes. FOLDER/seeds gets volumes, flash images, hand-off lists and expressions as tests/fuzz/cases.py makes them,
+from which the mutator takes files and volumes. FOLDER/few gets empty volumes and an expression of two ops. From
+these the mutator has to reach the planted faults."""
 
 from __future__ import annotations
 
@@ -49,6 +49,7 @@ def few() -> Iterator[tuple[str, bytes]]:
     empty = volume([], 192, system=FFS3)
     yield "volume", bytes([AS_VOLUME]) + none_refused + empty
     yield "image", bytes([AS_IMAGE_AND_VOLUME]) + none_refused + empty
+    yield "pair", bytes([AS_PAIR, 1]) + none_refused[1:] + empty + empty
     yield "expression", bytes([AS_EXPRESSION]) + none_refused + b"\x06\x08"
 
 

@@ -12,9 +12,9 @@ static const uint8_t modes[] = {AS_IMAGE_AND_VOLUME, AS_EXPRESSION, AS_HAND_OFF_
 
 static uint8_t given[PARAMETERS + 2 * MOST_INPUT], *const data = given + PARAMETERS;
 
-void saw(uint32_t what, uint32_t a, uint32_t b, uint64_t c)
+void saw(const char *function, uint32_t a, uint32_t b, uint64_t c)
 {
-    (void)what, (void)a, (void)b, (void)c;
+    (void)function, (void)a, (void)b, (void)c;
 }
 
 /* Reads a file to a place. Returns the number of its bytes. */
@@ -97,29 +97,11 @@ static void try_texts(void)
     }
 }
 
-/* Compares the SHA-256 of the harness with two examples of FIPS 180-4. */
-static void check_own_digest(void)
-{
-    static const struct {
-        const char *message;
-        uint8_t start[8];
-    } examples[] = {
-        {"abc", {0xba, 0x78, 0x16, 0xbf, 0x8f, 0x01, 0xcf, 0xea}},
-        {"abcdbcdecdefdefgefghfghighijhijkijkljklmklmnlmnomnopnopq", {0x24, 0x8d, 0x6a, 0x61, 0xd2, 0x06, 0x38, 0xb8}},
-    };
-    for (size_t i = 0; i < sizeof examples / sizeof *examples; i++) {
-        uint8_t digest[32];
-        sha256((const uint8_t *)examples[i].message, strlen(examples[i].message), digest);
-        CHECK(!memcmp(digest, examples[i].start, sizeof examples[i].start), "the harness has another SHA-256");
-    }
-}
-
 int main(int argc, char **argv)
 {
     const char *option = argc > 1 && !strncmp(argv[1], "--", 2) ? argv[1] : "";
     open_rooms();
     open_heap();
-    check_own_digest();
     if (!strcmp(option, "--texts")) try_texts();
     for (int i = *option ? 2 : 1; i < argc; i++) {
         if (*option)

@@ -1,7 +1,5 @@
 /* SPDX-License-Identifier: BSD-2-Clause-Patent */
-/* Checks fv_volume_tree: each row lies in the row of its parent, and agrees with its header. The files of the volume
- * are cells. A nested volume has the same rows if its bytes are read on their own. The image has the same rows at other
- * offsets. */
+/* Checks fv_volume_tree (README.md says how). */
 #include "format.h"
 #include "rows.h"
 #include "volume.h"
@@ -80,7 +78,7 @@ static void check_nodes(const struct volume *v, const fv_node *nodes, size_t cou
             check_part_row(v, node, i);
         ends[node->parent] = node->offset + node->length - parent->offset;
         held[i] = ends[i] = 0;
-        saw(SEEN_ROW, node->efi_type, node->content, node->header_length);
+        saw(__func__, node->efi_type, node->content, node->header_length);
     }
 }
 
@@ -138,7 +136,7 @@ static const fv_node *check_tree_of_image(const struct volume *v, const fv_node 
     fv_result result = fv_volume_tree(v->image, v->len, of_image, MOST_NODES, &count, &fault);
     check_plain("tree", result, FV_OK, &fault);
     CHECK(count == n, "tree: the image has %lu, not %lu", count, n);
-    saw(SEEN_TREE, of_image[n - 1].depth, n > 9 ? 9 : (uint32_t)n, 0);
+    saw(__func__, of_image[n - 1].depth, n > 9 ? 9 : (uint32_t)n, 0);
     for (size_t i = 0; i < n; i++) {
         fv_node a = nodes[i], b = of_image[i];
         a.offset = b.offset = 0;

@@ -1,7 +1,5 @@
 /* SPDX-License-Identifier: BSD-2-Clause-Patent */
-/* Checks fv_volume_unfix. The output has as many bytes as the input. No file is fixed in it. The output differs from
- * the input only in the two bytes of each mark, so a volume without marks stays as it is. The fault is a fault of the
- * header or of the cells, but never that a file is fixed. */
+/* Checks fv_volume_unfix (README.md says how). The fault is a fault of the header or of the cells. */
 #include "format.h"
 #include "rows.h"
 #include "volume.h"
@@ -31,7 +29,7 @@ static void check_marks(const struct volume *v)
         marks++;
     }
     CHECK(!memcmp(unfixed, expected, v->len), "unfix: another byte than those of %lu marks", marks);
-    saw(SEEN_UNFIX, marks > 9 ? 9 : (uint32_t)marks, 0, 0);
+    saw(__func__, marks > 9 ? 9 : (uint32_t)marks, 0, 0);
 }
 
 /* Checks that the other calls read the output, and that their results are the results for the input if no file in the
@@ -89,7 +87,7 @@ void try_unfix(const struct volume *v)
     fv_result result = try_rows(&rows, unfixed, &count, &fault);
     CHECK(allocations == before, "unfix has asked for memory");
     check_result("unfix", result, &fault, FV_FAULT_FREE_SPACE, v->len);
-    saw(SEEN_UNFIX, 10, result, fault.offset & 7);
+    saw(__func__, 10, result, fault.offset & 7);
     if (result) {
         check_fault(v, result, &fault);
         return;

@@ -1,6 +1,5 @@
 /* SPDX-License-Identifier: BSD-2-Clause-Patent */
-/* Checks the calls that take a volume. They agree about its fault. The image has the meaning and the digest of the
- * volume, and is its own image. */
+/* Checks the calls that take a volume (README.md says how). */
 #include "volume.h"
 #include "format.h"
 #include "rows.h"
@@ -41,7 +40,7 @@ static void try_header(struct volume *v)
     v->header_result = fv_header_read(v->bytes, v->len, &v->header, &v->header_fault);
     CHECK(allocations == before, "header_read has asked for memory");
     check_result("header_read", v->header_result, &v->header_fault, FV_FAULT_EXT_HEADER, v->len);
-    saw(SEEN_HEADER, v->header_result, v->header_fault.depth, 0);
+    saw(__func__, v->header_result, v->header_fault.depth, 0);
     if (v->header_result) {
         CHECK(!memcmp(&v->header, &untouched, sizeof untouched), "header_read has changed the header");
         CHECK(v->header_fault.depth == 0, "header_read: depth %u", v->header_fault.depth);
@@ -61,7 +60,7 @@ static void try_normalise(struct volume *v)
     v->result = try_rows(&rows, image, &count, &v->fault);
     v->image = v->result ? NULL : image;
     check_result("normalise", v->result, &v->fault, FV_FAULT_TOP_ALIGNMENT, v->len);
-    saw(SEEN_NORMALISE, v->result, v->fault.depth, v->fault.offset & 7);
+    saw(__func__, v->result, v->fault.depth, v->fault.offset & 7);
     bool is_read = v->result == FV_FAULT_NO_ROOM || v->result == FV_FAULT_TOP_ALIGNMENT;
     v->unread = is_read ? FV_OK : v->result;
     if (v->header_result)
@@ -69,45 +68,42 @@ static void try_normalise(struct volume *v)
               "header_read: %u, normalise: %u", v->header_result, v->result);
 }
 
-static void try_is_canonical(const struct volume *v)
+/* Tries a call that writes one result, of `size` bytes: as it is, and then with an allocation refused. */
+typedef fv_result one_call(const struct volume *v, void *one, fv_fault *fault);
+static void try_one(const struct volume *v, const char *name, one_call *call, const void *expected, size_t size,
+                    fv_result wanted, fv_result most, int which)
 {
-    uint32_t canonical = UNTOUCHED_32;
-    fv_fault fault = unset_fault;
-    fv_result result = fv_volume_is_canonical(v->bytes, v->len, &canonical, &fault);
-    check_no_block_is_kept("is_canonical");
-    check_agrees("is_canonical", v, result, &fault, v->unread, FV_FAULT_DEPTH);
-    uint32_t expected = v->image && !memcmp(v->bytes, v->image, v->len);
-    CHECK(canonical == (result ? UNTOUCHED_32 : expected), "is_canonical: %u", canonical);
-    fv_fault *wanted = FAULT_OR_NULL(v->parameters, &fault);
-    uint32_t refused = UNTOUCHED_32;
-    refuse_allocation(v->parameters[REFUSED + 1]);
-    fv_result again = fv_volume_is_canonical(v->bytes, v->len, &refused, wanted);
-    check_refusal("is_canonical", again, result, wanted);
-    CHECK(refused == (again ? UNTOUCHED_32 : canonical), "is_canonical: %u without memory", refused);
+    uint32_t untouched[8], found[8];
+    memset(untouched, UNTOUCHED, sizeof untouched);
+    memcpy(found, untouched, sizeof found);
+    fv_fault fault = unset_fault, *unless_null = FAULT_OR_NULL(v->parameters, &fault);
+    fv_result result = call(v, found, &fault);
+    check_no_block_is_kept(name);
+    check_agrees(name, v, result, &fault, wanted, most);
+    CHECK(!memcmp(found, result ? untouched : expected, size), "%s: another result than the expected", name);
+    memcpy(found, untouched, sizeof found);
+    refuse_allocation(v->parameters[REFUSED + which]);
+    fv_result again = call(v, found, unless_null);
+    check_refusal(name, again, result, unless_null);
+    CHECK(!memcmp(found, again ? untouched : expected, size), "%s: another result without memory", name);
 }
 
-static void try_digest(struct volume *v)
+static fv_result is_canonical(const struct volume *v, void *one, fv_fault *fault)
 {
-    fv_sha256 untouched;
-    memset(&untouched, UNTOUCHED, sizeof untouched);
-    v->digest = untouched;
-    fv_fault fault = unset_fault;
-    fv_result result = fv_volume_digest(v->bytes, v->len, &v->digest, &fault);
-    check_no_block_is_kept("digest");
-    check_agrees("digest", v, result, &fault, v->result, FV_FAULT_TOP_ALIGNMENT);
-    if (result) {
-        CHECK(!memcmp(&v->digest, &untouched, sizeof untouched), "digest has changed the digest");
-    } else {
-        uint8_t expected[32];
-        sha256(v->image, v->len, expected);
-        CHECK(!memcmp(expected, v->digest.bytes, 32), "digest: not that of the image");
-    }
-    fv_sha256 other = untouched;
-    fv_fault *wanted = FAULT_OR_NULL(v->parameters, &fault);
-    refuse_allocation(v->parameters[REFUSED + 2]);
-    fv_result again = fv_volume_digest(v->bytes, v->len, &other, wanted);
-    check_refusal("digest", again, result, wanted);
-    CHECK(!memcmp(&other, again ? &untouched : &v->digest, sizeof other), "digest: another without memory");
+    return fv_volume_is_canonical(v->bytes, v->len, one, fault);
+}
+
+static fv_result digest(const struct volume *v, void *one, fv_fault *fault)
+{
+    return fv_volume_digest(v->bytes, v->len, one, fault);
+}
+
+static void try_single_results(struct volume *v)
+{
+    uint32_t canonical = v->image && !memcmp(v->bytes, v->image, v->len);
+    try_one(v, "is_canonical", is_canonical, &canonical, sizeof canonical, v->unread, FV_FAULT_DEPTH, 1);
+    if (v->image) sha256(v->image, v->len, v->digest.bytes);
+    try_one(v, "digest", digest, &v->digest, sizeof v->digest, v->result, FV_FAULT_TOP_ALIGNMENT, 2);
 }
 
 /* Checks the comparison of a volume with itself, or with its image. */
@@ -145,8 +141,7 @@ void try_volume(const uint8_t *bytes, size_t len, const uint8_t *parameters)
     struct volume volume = {.bytes = bytes, .len = len, .parameters = parameters};
     try_header(&volume);
     try_normalise(&volume);
-    try_is_canonical(&volume);
-    try_digest(&volume);
+    try_single_results(&volume);
     try_cells(&volume);
     try_tree(&volume);
     try_parts(&volume);
