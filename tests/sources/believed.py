@@ -14,7 +14,7 @@ import re
 import sys
 from collections.abc import Set
 
-from tests.checks import ROOT, read, report
+from tests.checks import ROOT, read, report, section
 from tests.sources.definitions import Imports, Key, Place, Words
 
 HEADLINE = ("fv_canon", "Headline")
@@ -67,7 +67,7 @@ def main() -> int:
     # A mutual block contains several definitions, and is counted once.
     blocks = {(*key[:2], words.groups[key].text) for key in first}
     lines = sum(bool(line.strip()) for _, _, text in blocks for line in text.split("\n"))
-    passage = read("docs/PROVED.md").split("## Definitions to review")[1].split("\n## ")[0]
+    passage = section("docs/PROVED.md", "Definitions to review")
     headline, besides, types = re.split(r"Further\s+files|The\s+types", passage)
     said = [int(number) for number in re.findall(r"\d+", headline)[:3]]
     computed = [round(len(first), -1), round(lines, -2), len(files)]
