@@ -186,12 +186,13 @@ class OfAll(ImageCase):
                     self.expect(status, text.format(Path(name).name, shown), *self.words(name, given))
 
     def test_names_of_options(self) -> None:
-        for option in ("--help", "--open", "--most", "-x"):
-            shutil.copy("plain.fv", option)
-            for name in PACKAGE:
+        for name in PACKAGE:
+            plain = self.said(0, *self.words(name, "plain.fv"))
+            for option in ("--help", "-x"):
+                shutil.copy("plain.fv", option)
                 with self.subTest(name=name, option=option):
                     said = self.said(0, name, *BEFORE_IMAGE.get(name, ()), "--", option)
-                    self.assertEqual(said, self.said(0, *self.words(name, "plain.fv")).replace("plain.fv", option))
+                    self.assertEqual(said, plain.replace("plain.fv", option))
 
     def test_terminal(self) -> None:
         stored = self.said(0, ARCHIVE, "add", "store", "plain.fv").split()[0]

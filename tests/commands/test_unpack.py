@@ -149,6 +149,7 @@ ONLY = (
 )
 NOT_ONE: Table = (
     (1, "fv-unpack: --only Gamma: no part is called so in plain.fv", "--only", "Gamma", "plain.fv", "gamma"),
+    (1, r"fv-unpack: --only a\u000ab: no part is called so in plain.fv", "--only", "a\nb", "plain.fv", "gamma"),
     (1, "fv-unpack: --only Alpha/PE32: 2 parts: give the path of one of them\nfv-unpack: 00-volume/000-Alpha/pe32.efi\n"
         "fv-unpack: 01-volume/000-Alpha/pe32.efi", "--only", "Alpha/PE32", "twice.fd", "gamma"),
     (2, "fv-unpack: missing.fd: no such file\nmissing.fd: fault 25 at 0", "--only", "Alpha", "missing.fd", "gamma"),
@@ -358,6 +359,7 @@ class Unpack(PartsCase):
         self.assertEqual([os.stat(it).st_mode & 0o777 for it in ("modes", "modes/index.tsv")], [0o755, 0o644])
 
     def test_links_in_the_place_of_folders(self) -> None:
+        self.addCleanup(shutil.rmtree, "shared")  # what is left there is not ours
         ran = self.ran_alone(swap_folders)
         self.assertEqual((ran.returncode, ran.stderr), (0, ""))
         self.assertEqual(Path("victim").read_text(), "mine")

@@ -22,6 +22,8 @@ TEXTS = [
     *("8c8ce57-88a3d-4f1c-9935-896185c32dd3", "+c8ce578-8a3d-4f1c-9935-896185c32dd3"),
     *("0x8ce578-8a3d-4f1c-9935-896185c32dd3", "0x8c8ce578, 0x8a3d, 0x4f1c, {0x99, 0"),
 ]
+# A volume, and a volume with a wrong file checksum. The harness tries each input with the input before it as a pair.
+PAIR = rows.spelled("empty"), rows.spelled("<80> 0a*16 47ab0100180000f8 ff*32")
 # A volume with two fixed files.
 FIXED = "<a0> 0a*16 43aa0104180000f8 0b*16 23aa010c200000f8 00*8 ff*32"
 SMALL = 20000  # bytes
@@ -62,7 +64,8 @@ def images() -> Iterator[bytes]:
 
 def small_files(folder: Path) -> list[Path]:
     """Writes the small inputs to a folder, each once."""
-    found = dict.fromkeys([*made(7, 60), *spelled(), *expressions(), *images(), *(it.encode() for it in TEXTS), b""])
+    texts = (it.encode() for it in TEXTS)
+    found = dict.fromkeys([*PAIR, *made(7, 60), *spelled(), *expressions(), *images(), *texts, b""])
     files = []
     for number, data in enumerate(data for data in found if len(data) <= SMALL):
         files.append(folder / f"{number}.input")

@@ -1,6 +1,6 @@
 # SPDX-License-Identifier: BSD-2-Clause-Patent
-"""Tests of libfv in C and C++: its header, its calls, its examples, and the checks of the fuzzer (tests/fuzz/libfv) over
-made inputs. CC and CXX name the compilers."""
+"""Tests of libfv in C and C++: its header, its calls, its examples, and the checks of the fuzzer (tests/fuzz/libfv)
+over made inputs. CC and CXX name the compilers."""
 
 from __future__ import annotations
 
@@ -31,7 +31,8 @@ def can_compile(language: str, *command: str) -> bool:
     if not shutil.which(command[0]):
         return False
     words = [*command, "-x", language, "-", "-o", os.devnull]
-    return subprocess.run(words, input="int main(void) { return 0; }", text=True, stderr=subprocess.DEVNULL).returncode == 0
+    run = subprocess.run(words, input="int main(void) { return 0; }", text=True, stderr=subprocess.DEVNULL)
+    return run.returncode == 0
 
 
 class Compiled(RoomCase):
@@ -109,8 +110,8 @@ class Calls(Compiled):
         source.write_text(
             "#include <fv.h>\ntypedef void (*call)();\nint main() {\n"
             f"    static const volatile call all[] = {{{all_calls}}};\n"
-            "    for (auto &it : all) if (!it) return 1;\n    return fv_image_scan(nullptr, 0, nullptr, 0, nullptr, nullptr) "
-            "!= FV_BAD_ARGUMENT;\n}\n",
+            "    for (auto &it : all) if (!it) return 1;\n"
+            "    return fv_image_scan(nullptr, 0, nullptr, 0, nullptr, nullptr) != FV_BAD_ARGUMENT;\n}\n",
             encoding="utf-8",
         )
         self.expect(0, "", self.build("links", source, "-Wno-cast-function-type", compiler=CXX, standard="c++17"))
@@ -130,7 +131,8 @@ class Examples(Compiled):
         if shutil.which("cargo"):
             manifest, target = ROOT / "rust/Cargo.toml", self.room / "rust"
             words = "cargo build --quiet --offline --locked --example volumes --manifest-path".split()
-            self.expect(0, "", *words, manifest, env={"LIBFV_DIR": str(ARCHIVE.parent), "CARGO_TARGET_DIR": str(target)})
+            environment = {"LIBFV_DIR": str(ARCHIVE.parent), "CARGO_TARGET_DIR": str(target)}
+            self.expect(0, "", *words, manifest, env=environment)
             found["Rust"] = [target / "debug/examples/volumes"]
         return found
 
@@ -208,10 +210,10 @@ class Harness(RoomCase):
 
     def test_changes(self) -> None:
         """Volumes with each bit flipped, and cut short at each length."""
-        words = {"empty": "empty", "nested": "nested-with-deleted-file", "sections": "two-sections", "fixed": inputs.FIXED}
-        for name, text in words.items():
-            (self.room / name).write_bytes(rows.spelled(text))
-        self.check("--changes", *words)
+        texts = ("empty", "nested-with-deleted-file", "two-sections", inputs.FIXED)
+        for number, text in enumerate(texts):
+            (self.room / str(number)).write_bytes(rows.spelled(text))
+        self.check("--changes", *map(str, range(len(texts))))
 
     def test_planted_faults(self) -> None:
         """Each fault that plant.c puts into the library is found."""

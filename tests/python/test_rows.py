@@ -22,7 +22,7 @@ RUNS = ("normalise", "extract", "scan", "hobs", "list", "sums", "check", "cells"
 COMMANDS = {"normalise-all": "normalise --all", "check-all": "check --all", "list-sums": "list --sums"}
 # How many of these rows are runs of a command over bytes, from their first byte on, by a command with a call. The rows
 # for other runs are for tests/program/test_rows.py only.
-RUN = 272
+RUN = 278
 # Canonical images with an extended header, a pad before an aligned file, and a volume inside.
 IMAGES = ("ext-header-image", "misaligned-file-image", "nested-image")
 VOLUMES = (

@@ -1,5 +1,5 @@
 -- The text of `hobs`, and the content of an image where a volume should be.
-use Rattle.std.specs.Prelude.{◌≤◌, ℕ, ◌+◌, ◌-◌, List, length, take, drop, [], ◌∷◌, ◌++◌, Option, None, Some, codes}
+use Rattle.std.specs.Prelude.{◌≡◌, ◌≤◌, ℕ, ◌+◌, ◌-◌, List, length, take, drop, [], ◌∷◌, ◌++◌, Option, None, Some, codes}
 use Rattle.std.specs.Prelude.{decimal}
 use Rattle.fv_hob.specs.Words.{HobForm, hob_type, hob_len, span_of}
 use Rattle.fv_hob.specs.declared.span.Span.{Span}
