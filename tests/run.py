@@ -89,7 +89,7 @@ def written(run: Run) -> list[str]:
 CHECKS = (
     Check("prove", """bash -c 'rt ci && tools/statement --keep "$OUTPUT"'""", ALONE,
           "proves all crates from nothing, with their tests, programs and must-fail edits (rt ci)"),
-    # rt ci also passes if an edit cannot be applied or compiled, but that edit shows nothing. Without rt ci, grep fails.
+    # rt ci also passes if an edit cannot be applied or compiled, but that edit shows nothing. grep fails without rt ci.
     Check("edits", """bash -c 'grep "BAD EDIT" "${OUTPUT%/*}/prove.said"; (($? == 1))'""", 0,
           "each must-fail edit has reached the prover in rt ci", after=("prove",)),
     Check("program", "tools/prove.py fv_tool", QUICK | ALONE,

@@ -67,24 +67,17 @@ class Runs(RoomCase):
         mypy = "not tried: idle: the types, no mypy (Debian: mypy)\n"
         parts = "not tried: partly: the shell, no zsh\nnot tried: partly: the page, no mandoc\n"
         zsh = "not tried: badly: the shell, no zsh\n"
+        bad, late = "failed: bad\n", "failed: missing\nfailed: later\nfailed: latest\n"
         for status, lines, words in (
             (0, "3 passed, 0 failed", "--strict good texts other"),
-            (1, "failed: bad\n1 passed, 1 failed", "bad good"),
+            (1, f"{bad}1 passed, 1 failed", "bad good"),
             (0, f"{parts}1 passed, 0 failed, 2 skipped", "partly"),
             (0, "not tried: idlest: one, no a\nnot tried: idlest: two, no b\n0 passed, 0 failed, 2 skipped", "idlest"),
             (0, "not tried: mute: all of it, and it gives no reason\n1 passed, 0 failed, 1 skipped", "mute good"),
             (0, "not tried: lacking: all of it, it is not built\n0 passed, 0 failed, 1 skipped", "lacking"),
             (1, f"{mypy}with --strict, nothing may be skipped\n1 passed, 0 failed, 1 skipped", "--strict good idle"),
-            (
-                1,
-                f"failed: bad\nfailed: badly\n{parts}{zsh}{mypy}2 passed, 2 failed, 4 skipped",
-                "good partly bad badly idle",
-            ),
-            (
-                1,
-                "failed: bad\nfailed: missing\nfailed: later\nfailed: latest\n1 passed, 4 failed",
-                "good latest later bad missing",
-            ),
+            (1, f"{bad}failed: badly\n{parts}{zsh}{mypy}2 passed, 2 failed, 4 skipped", "good partly bad badly idle"),
+            (1, f"{bad}{late}1 passed, 4 failed", "good latest later bad missing"),
             (0, "6 passed, 0 failed", "later left right lone lonely good"),
         ):
             with self.subTest(words):

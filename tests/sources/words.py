@@ -21,8 +21,10 @@ import os
 import re
 import sys
 from dataclasses import dataclass
+from pathlib import Path
 
 from tests.checks import ROOT, found_by, read, report, section
+from tests.install.pages import dead_links
 from tests.sources.definitions import DOOR, IMPORT, INNER, Words, door, roots
 
 PROOF_IMPORT = re.compile(
@@ -208,8 +210,7 @@ def paths() -> list[str]:
     wrong: list[str] = []
     for document in found_by("*.md", "*/*.md", "rust/*/*.md", "tests/**/*.md"):
         text, beside = read(document), os.path.dirname(document)
-        linked = [os.path.join(beside, link) for link in re.findall(r"\]\(([\w./-]+)\)", text)]
-        wrong += [f"{document} has a link to {path}, which is not there" for path in linked if not os.path.exists(path)]
+        wrong += dead_links(Path(document), text)
         for path in NAMED.findall(text):
             any_part = re.sub(r"\b[A-Z]{2,}\b", "*", path)
             places = [any_part, os.path.join(beside, any_part), f"crates/*/{any_part}"]
