@@ -1,4 +1,3 @@
-#!/usr/bin/env python3
 # SPDX-License-Identifier: BSD-2-Clause-Patent
 """Runs the examples of README.md, docs/PROGRAM.md, docs/FAULTS.md and the READMEs of recipes/, and compares their
 outputs and exit statuses with what the documents show. If documents are given, it runs only the examples of these

@@ -8,7 +8,6 @@ from __future__ import annotations
 import functools
 import os
 import shutil
-import subprocess
 import sys
 import tempfile
 import unittest
@@ -28,7 +27,7 @@ unittest.addModuleCleanup(shutil.rmtree, FOLDER)
 PACKAGES = ("fvtool", f"libfv{MAJOR}", "libfv-dev", "python3-fv")
 LIBRARY_PACKAGES = PACKAGES[1:]
 INSTALL = ("apt-get", "install", "--yes", "--no-install-recommends")
-IN_GIT = subprocess.run(["git", "rev-parse", "HEAD"], cwd=ROOT, capture_output=True, check=False).returncode == 0
+IN_GIT = ImageCase.run_command("git", "rev-parse", "HEAD", cwd=ROOT).returncode == 0
 
 
 def why_no_release() -> str:

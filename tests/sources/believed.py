@@ -1,4 +1,3 @@
-#!/usr/bin/env python3
 # SPDX-License-Identifier: BSD-2-Clause-Patent
 """Computes which definitions the headline rests on, and compares them with the lists in docs/PROVED.md of the files
 that a reviewer must read.

@@ -1,4 +1,3 @@
-#!/usr/bin/env python3
 # SPDX-License-Identifier: BSD-2-Clause-Patent
 """Checks the words, sentences and widths of documents, comments of code, definitions and proofs, and the help of
 scripts (their docstrings and the texts of argparse).
@@ -121,8 +120,7 @@ def of_document(path: str) -> Lines:
 def of_comments(path: str) -> Lines:
     """Returns the comments of a file of code, definitions or proofs, with None in place of all other lines."""
     for number, line in enumerate(read(path).split("\n"), 1):
-        match = COMMENT.match(line)
-        yield number, match[1] if match else None
+        yield number, match[1] if (match := COMMENT.match(line)) else None
 
 
 def texts_of(tree: ast.AST) -> Iterator[tuple[int, str]]:
