@@ -23,11 +23,12 @@ cannot be written, or memory ran out."""
 
 from __future__ import annotations
 
+import argparse
 import dataclasses
 import enum
 import json
 import uuid
-from collections.abc import Callable, Iterator
+from collections.abc import Callable, Iterable, Iterator
 from typing import Any
 
 import fv
@@ -53,29 +54,6 @@ def fields(row: Any) -> Line:
     return {it.name: shown(getattr(row, it.name)) for it in dataclasses.fields(row)}
 
 
-def scan(volume: memoryview) -> Iterator[Line]:
-    """Yields a line for the header of a volume."""
-    line = fields(fv.header_read(volume))
-    del line["offset"]
-    yield line
-
-
-def tree(volume: memoryview) -> Iterator[Line]:
-    """Yields a line for each row of the tree of a volume."""
-    for row, node in enumerate(fv.volume_tree(volume)):
-        yield {"row": row, **fields(node)}
-
-
-def cells(volume: memoryview) -> Iterator[Line]:
-    """Yields a line for each cell of a volume."""
-    yield from map(fields, fv.volume_cells(volume))
-
-
-def check(volume: memoryview) -> Iterator[Line]:
-    """Yields one line, which says whether a volume is canonical."""
-    yield {"canonical": fv.volume_is_canonical(volume)}
-
-
 def digests(volume: memoryview) -> Iterator[Line]:
     """Yields a line for each row of the tree of a volume that has a digest."""
     for row, (node, digest) in enumerate(zip(fv.volume_tree(volume), fv.volume_tree_digests(volume))):
@@ -84,30 +62,21 @@ def digests(volume: memoryview) -> Iterator[Line]:
             yield {"row": row, **part, "sha256": digest.hex()}
 
 
-# The commands, by their names on the command line.
-COMMANDS: dict[str, Callable[[memoryview], Iterator[Line]]] = {
-    "scan": scan,
-    "tree": tree,
-    "cells": cells,
-    "check": check,
+# The commands, by their names on the command line, and the lines that each has for a volume.
+COMMANDS: dict[str, Callable[[memoryview], Iterable[Line]]] = {
+    "scan": lambda volume: [{name: it for name, it in fields(fv.header_read(volume)).items() if name != "offset"}],
+    "tree": lambda volume: ({"row": row, **fields(node)} for row, node in enumerate(fv.volume_tree(volume))),
+    "cells": lambda volume: map(fields, fv.volume_cells(volume)),
+    "check": lambda volume: [{"canonical": fv.volume_is_canonical(volume)}],
     "digests": digests,
 }
 
 
-def volumes(image: memoryview) -> Iterator[tuple[int, memoryview]]:
-    """Yields each volume of an image with its offset, or all bytes if the image contains no volume."""
-    headers = fv.image_scan(image)
-    for it in headers:
-        yield it.offset, image[it.offset : it.offset + it.length]
-    if not headers:
-        yield 0, image
-
-
 def lines(image: memoryview, name: str) -> Iterator[Line]:
     """Yields the lines of a command. A rejected volume has one line, with its fault."""
-    for at, volume in volumes(image):
+    for at, length in [(it.offset, it.length) for it in fv.image_scan(image)] or [(0, len(image))]:
         try:
-            for line in COMMANDS[name](volume):
+            for line in COMMANDS[name](image[at : at + length]):
                 yield {"volume": at, **line}
         except fv.FaultError as error:
             fault = error.fault
@@ -126,20 +95,13 @@ def text_of(line: Line) -> str:
     return " ".join(f"{name} {it if isinstance(it, str) else json.dumps(it)}" for name, it in shown_fields)
 
 
-def parser() -> cli.Parser:
-    """Returns the arguments of the command."""
-    made = cli.Parser(NAME, __doc__)
-    made.add_argument("command", choices=COMMANDS)
-    made.add_argument("image", metavar="IMAGE", help="a flash image or a firmware volume")
-    made.add_argument("--json", action="store_true", help="write each line as a JSON object")
-    return made
+JSON = cli.flag("--json", "write each line as a JSON object")
+parser = cli.of(NAME, __doc__, cli.argument("command", choices=COMMANDS), cli.IMAGE, JSON)
 
 
-@cli.command(NAME)
-def main(words: list[str]) -> int:
+@cli.command(parser)
+def main(given: argparse.Namespace) -> int:
     """Writes the lines of a command, and returns the exit status."""
-    given = parser().parse_args(words)
-    cli.limit_memory()
     status, image = cli.DONE, memoryview(cli.read_for(NAME, given.image))
     for line in lines(image, given.command):
         print(json.dumps(line) if given.json else text_of(line))

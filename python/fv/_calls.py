@@ -46,6 +46,14 @@ def _over(data: Buffer, copy: bool, run: Callable[..., Result], *rest: Any) -> R
         return run(address, size, *rest)
 
 
+def _found(size: int, data: Buffer, copy: bool, call: Callable[..., int], *rest: Any) -> bytes:
+    """Returns the result of this many bytes that a call writes about some data. `rest` are the arguments before it."""
+    found, fault = bytes(size), bytes(FAULT_SIZE)
+    if result := _over(data, copy, call, *rest, found, fault):
+        raise error_of(result, fault)
+    return found
+
+
 def _image(address: Any, size: int, call: Callable[..., int]) -> bytes:
     """Returns the image that a call writes. It is as long as the data."""
     image, fault = new_bytes(size), bytes(FAULT_SIZE)
@@ -80,10 +88,7 @@ def version_number() -> int:
 
 def header_read(data: Buffer, *, copy: bool = True) -> Header:
     """Returns the header of the volume with which the data begin. Reads only this header: the body is not checked."""
-    found, fault = bytes(Headers.layout.size), bytes(FAULT_SIZE)
-    if result := _over(data, copy, lib.fv_header_read, found, fault):
-        raise error_of(result, fault)
-    return Headers.item(found)
+    return Headers.item(_found(Headers.layout.size, data, copy, lib.fv_header_read))
 
 
 def image_scan(image: Buffer, *, copy: bool = True) -> Sequence[Header]:
@@ -105,10 +110,7 @@ def image_normalise(image: Buffer, *, copy: bool = True) -> bytes:
 
 def volume_is_canonical(volume: Buffer, *, copy: bool = True) -> bool:
     """Returns whether a volume is its own canonical image. The data must be exactly that volume."""
-    canonical, fault = bytes(_U32.size), bytes(FAULT_SIZE)
-    if result := _over(volume, copy, lib.fv_volume_is_canonical, canonical, fault):
-        raise error_of(result, fault)
-    return canonical == _TRUE
+    return _found(_U32.size, volume, copy, lib.fv_volume_is_canonical) == _TRUE
 
 
 def volume_normalise(volume: Buffer, *, copy: bool = True) -> bytes:
@@ -125,10 +127,7 @@ def volume_unfix(volume: Buffer, *, copy: bool = True) -> bytes:
 
 def volume_digest(volume: Buffer, *, copy: bool = True) -> bytes:
     """Returns the SHA-256 digest of the canonical image of a volume. The data must be exactly that volume."""
-    digest, fault = bytes(Digests.layout.size), bytes(FAULT_SIZE)
-    if result := _over(volume, copy, lib.fv_volume_digest, digest, fault):
-        raise error_of(result, fault)
-    return digest
+    return _found(Digests.layout.size, volume, copy, lib.fv_volume_digest)
 
 
 def _compare(address: Any, size: int, first: Buffer, copy: bool, *rest: Any) -> int:
@@ -141,10 +140,8 @@ def volume_compare(first: Buffer, second: Buffer, *, copy: bool = True) -> str |
     """Returns None if two volumes have the same meaning. Otherwise returns "different at", the steps down to the first
     difference, and its kind. The `input` of a fault says which volume is rejected. The second volume is read only if
     the first one is accepted."""
-    found, fault, room = bytes(_COMPARISON.size), bytes(FAULT_SIZE), native.DIFFERENCE_SIZE
-    text = bytes(room)
-    if result := _over(second, copy, _compare, first, copy, text, room, found, fault):
-        raise error_of(result, fault)
+    text = bytes(native.DIFFERENCE_SIZE)
+    found = _found(_COMPARISON.size, second, copy, _compare, first, copy, text, len(text))
     text_length, same = _COMPARISON.unpack(found)
     return None if same else text[:text_length].decode()
 
@@ -196,12 +193,9 @@ def depex_evaluate(
     names = [it.bytes_le for it in installed]
     if any(len(it) != GUID_SIZE for it in names):
         raise ValueError(f"a GUID has {GUID_SIZE} bytes")
-    guids = b"".join(names)
-    value, fault = bytes(_U32.size), bytes(FAULT_SIZE)
     number = (phase if type(phase) is Phase else Phase(operator.index(phase))).value
-    if result := _over(expression, copy, lib.fv_depex_evaluate, number, guids, len(names), value, fault):
-        raise error_of(result, fault)
-    return _TRUTHS[value]
+    installed_names = number, b"".join(names), len(names)
+    return _TRUTHS[_found(_U32.size, expression, copy, lib.fv_depex_evaluate, *installed_names)]
 
 
 def hobs_read(data: Buffer, *, copy: bool = True) -> HobList:

@@ -32,48 +32,24 @@ class Tree:
         self._most = self._left = most
         self._opened: list[tuple[str, int]] = []  # the names and the descriptors of these folders
 
-    def make(self, path: str) -> None:
-        """Makes a folder, and the folders above it that are not there."""
-        self._enter(path)
-
     def leave(self, depth: int = 0) -> None:
         """Closes the folders that are open, except the first ones down to a depth."""
         while len(self._opened) > depth:
             os.close(self._opened.pop()[1])
 
-    def write(self, path: str, data: memoryview) -> None:
-        """Writes a new file, and makes the folders above it that are not there."""
-        self._take(len(data))
-        file = self._new(path)
-        try:
-            while data:
-                data = data[os.write(file, data) :]
-        finally:
-            os.close(file)
-
-    @contextlib.contextmanager
-    def file(self, path: str) -> Iterator[IO[bytes]]:
-        """Gives the block a new file, for `put`."""
-        with os.fdopen(self._new(path), "wb") as file:
-            yield file
+    def file(self, path: str) -> IO[bytes]:
+        """Returns a new file, for `put`. Makes the folders above it that are not there."""
+        folder, _, name = path.rpartition("/")
+        return os.fdopen(os.open(name, NEW, 0o666, dir_fd=self.enter(folder)), "wb")
 
     def put(self, file: IO[bytes], data: bytes | memoryview) -> None:
         """Writes bytes to a file of the folder."""
-        self._take(len(data))
-        file.write(data)
-
-    def _take(self, count: int) -> None:
-        """Takes this many bytes of those that may be written."""
-        self._left -= count
+        self._left -= len(data)
         if self._left < 0:
             raise Full(f"{self._most} bytes")
+        file.write(data)
 
-    def _new(self, path: str) -> int:
-        """Returns a descriptor for a new file."""
-        folder, _, name = path.rpartition("/")
-        return os.open(name, NEW, 0o666, dir_fd=self._enter(folder))
-
-    def _enter(self, path: str) -> int:
+    def enter(self, path: str) -> int:
         """Returns a descriptor for a folder. Makes the folders on the way that are not there."""
         names = [it for it in path.split("/") if it]
         same = itertools.takewhile(lambda both: both[0][0] == both[1], zip(self._opened, names))
@@ -107,7 +83,10 @@ def filled_at_end(folder: Path, most: int, last: str) -> Iterator[Tree]:
         yield tree
         with cli.undisturbed():
             if is_there:
-                _move_parts(parts, holder, folder, last)
+                # Nothing can be read from a folder that was opened as a place.
+                if os.listdir(_kept(os.open(".", READ, dir_fd=holder), ending)) != [ROOM]:
+                    raise FileExistsError(f"something else was written to {folder}")
+                _move_parts(parts, holder, last)
             else:
                 _rename(room, holder, folder)
 
@@ -152,7 +131,7 @@ def _new_room(name: str, holder: int, ending: contextlib.ExitStack) -> int:
         os.unlink(PROBE, dir_fd=room)
     if not is_own:
         raise OSError(f"another user has put a folder in the place of {name}")
-    ending.callback(_empty_undisturbed, room)
+    ending.callback(_empty, room)
     return room
 
 
@@ -162,23 +141,16 @@ def _remove(name: str, holder: int) -> None:
         os.rmdir(name, dir_fd=holder)
 
 
-def _empty_undisturbed(folder: int) -> None:
-    """Removes what is in a folder, also if a signal comes."""
+def _empty(room: int) -> None:
+    """Removes what is in a folder, as far as that is possible, also if a signal comes."""
     with cli.undisturbed():
-        _empty(folder)
-
-
-def _empty(folder: int) -> None:
-    """Removes what is in a folder, as far as that is possible."""
-    for name in os.listdir(folder):
-        with contextlib.suppress(OSError), contextlib.ExitStack() as ending:
-            try:
-                inner = _kept(os.open(name, READ, dir_fd=folder), ending)
-            except OSError:  # not a folder
-                os.unlink(name, dir_fd=folder)
-            else:
-                _empty(inner)
-                os.rmdir(name, dir_fd=folder)
+        for _, folders, files, at in os.fwalk(".", topdown=False, dir_fd=room):
+            for name in (*files, *folders):
+                with contextlib.suppress(OSError):
+                    try:
+                        os.unlink(name, dir_fd=at)  # a link to a folder is removed too
+                    except IsADirectoryError:
+                        os.rmdir(name, dir_fd=at)
 
 
 def _rename(room: int, holder: int, folder: Path) -> None:
@@ -189,10 +161,8 @@ def _rename(room: int, holder: int, folder: Path) -> None:
         raise OSError(f"{folder}: {error.strerror}") from None
 
 
-def _move_parts(parts: int, holder: int, folder: Path, last: str) -> None:
-    """Moves the contents of a folder to another folder, which contains only ROOM. If that fails, moves them back."""
-    if _names_in(holder) != [ROOM]:
-        raise FileExistsError(f"something else was written to {folder}")
+def _move_parts(parts: int, holder: int, last: str) -> None:
+    """Moves the contents of a folder to another folder. If that fails, moves them back."""
     moved: list[str] = []
     try:
         for name in sorted(os.listdir(parts), key=lambda it: it == last):
@@ -202,12 +172,3 @@ def _move_parts(parts: int, holder: int, folder: Path, last: str) -> None:
         for name in moved:
             os.rename(name, name, src_dir_fd=holder, dst_dir_fd=parts)
         raise
-
-
-def _names_in(place: int) -> list[str]:
-    """Returns the names in a folder that was opened as a place."""
-    folder = os.open(".", READ, dir_fd=place)
-    try:
-        return os.listdir(folder)
-    finally:
-        os.close(folder)

@@ -136,16 +136,11 @@ class Held:
             _release_view(self._view)
 
 
-def of_32_bits(number: SupportsIndex) -> int:
-    """Returns the number if it has at most 32 bits; ctypes would cut a larger one."""
-    index = operator.index(number)
-    if not 0 <= index < 2**32:
-        raise ValueError(f"{index} is not a number of 32 bits")
-    return index
-
-
 def result_text(result: SupportsIndex) -> str:
     """Returns a sentence that explains a result of a call: a fault's code, or another number of fv.h. Raises ValueError
     if the number has more than 32 bits."""
-    text: bytes = lib.fv_result_text(of_32_bits(result))
+    index = operator.index(result)
+    if not 0 <= index < 2**32:  # ctypes would cut it
+        raise ValueError(f"{index} is not a number of 32 bits")
+    text: bytes = lib.fv_result_text(index)
     return text.decode()

@@ -4,17 +4,19 @@ not trusted: all of them are escaped, and characters that cannot be seen are sho
 
 from __future__ import annotations
 
-import html
+import math
 import os
 import re
 from collections import Counter
 from collections.abc import Iterable, Iterator, Sequence
-from dataclasses import dataclass
+from html import escape
+from itertools import chain, pairwise
 from pathlib import Path
-from typing import TypeVar
+from typing import NamedTuple, TypeVar
 
-from ._sheet import Changes, Drawing, Lack, Row, Sheet, bytes_in, meaning_of
-from .images import File, Part, Unread, Volume
+from ._native import CellKind
+from ._sheet import Change, Drawing, Lack, Row, Sheet, changes, meaning_of
+from .images import REMAINS, File, Part, Section, Unread, Volume, leaves
 from .shown import printable
 
 MOST_VOLUMES = 250  # volumes of a page
@@ -27,33 +29,41 @@ MOST_SECTIONS, MOST_NOTES = 8, 4  # sections that the row of a file names, and n
 MOST_SIGNS = 24_000_000  # characters of a page. When it has them, the rest of each table and picture is left out
 
 Item = TypeVar("Item")
+Box = tuple[float, float, float, float]
 
 NO_VOLUME = "no volume"
-# The classes of the colours by the types of files, from 0x01 on.
+# The colours by the types of files, from 0x01 on.
 COLORS = dict(enumerate("raw free-form core core core pei dxe pei app mm image mm core mm core".split(), 0x01))
+# The titles of columns with numbers, and their attributes. An offset has two columns.
+NUMBERS = dict.fromkeys(("Size", "Files", "Pads", "Free", "Before", "Now", "By"), ' class="n"')
+NUMBERS["Offset"] = ' class="n" colspan="2"'
+# The classes of the colours and of the edges, and what they mean.
 LEGEND = {
-    "core": "core (SEC, PEI, DXE, MM)",
-    "pei": "PEI module",
-    "dxe": "DXE driver",
-    "mm": "MM driver",
-    "app": "application",
-    "image": "volume image",
-    "free-form": "freeform",
-    "raw": "raw",
-    "other": "another type",
-    "pad": "pad",
-    "deleted": "deleted or unfinished",
-    "header": "header",
-    "free": "free",
-    "bad": "rejected volume",
-    "none": NO_VOLUME,
-    "unread": "not shown",
+    "k-core": "core (SEC, PEI, DXE, MM)",
+    "k-pei": "PEI module",
+    "k-dxe": "DXE driver",
+    "k-mm": "MM driver",
+    "k-app": "application",
+    "k-image": "volume image",
+    "k-free-form": "freeform",
+    "k-raw": "raw",
+    "k-other": "another type",
+    "k-pad": "pad",
+    "k-deleted": "deleted or unfinished",
+    "k-header": "header",
+    "k-free": "free",
+    "k-bad": "rejected volume",
+    "k-none": NO_VOLUME,
+    "k-unread": "not shown",
+    "mark came": "came",
+    "mark changed": "changed",
 }
-# Parts of a volume that are not among its files: their names, and the classes of their colours.
-GONE = {
-    "file": ("superseded file", "deleted"),
-    "deleted": ("deleted file", "deleted"),
-    "unfinished": ("unfinished file", "deleted"),
+# The sums that the head of a volume gives: their names, and the cells that are summed.
+SUMS = {
+    "files": [CellKind.FILE],
+    "pads": [CellKind.PAD],
+    "free": [CellKind.FREE],
+    "deleted or unfinished": [CellKind.DELETED, CellKind.UNFINISHED],
 }
 
 
@@ -64,23 +74,20 @@ def amount(count: int) -> str:
     return f"{count / 1024:.1f} KiB" if count >= 1024 else f"{count} B"
 
 
-def offset(at: int) -> str:
-    """Returns an offset in decimal and hexadecimal."""
-    return f"{at} ({at:#x})"
-
-
-def name_of(path: str, other: str | None) -> str:
-    """Returns the file name of an image, with as much of its path as distinguishes it from the other image."""
-    ours, theirs = (Path(os.path.abspath(it)).parts for it in (path, other or path))
-    count = 1
-    while ours != theirs and ours[-count:] == theirs[-count:]:
-        count += 1
-    return printable(os.path.join(*ours[-count:]))
-
-
 def bytes_of(count: int) -> str:
     """Returns a number of bytes with a unit, and the exact number."""
     return f"{amount(count)} ({count:,} bytes)"
+
+
+def lacks_of(drawing: Drawing) -> str:
+    """Returns how many parts of an image are not read, and how many bytes they have."""
+    count = len(drawing.lacks)
+    return f"{count:,} part{'s' * (count != 1)}, {bytes_of(drawing.lacking)}"
+
+
+def offset(at: int) -> str:
+    """Returns an offset in decimal and hexadecimal."""
+    return f"{at} ({at:#x})"
 
 
 def percent(part: int, whole: int) -> str:
@@ -88,120 +95,109 @@ def percent(part: int, whole: int) -> str:
     return f"{100 * part / whole:.1f} %" if whole else "0 %"
 
 
+def name_of(path: str, other: str) -> str:
+    """Returns the file name of an image, with as much of its path as distinguishes it from the other image."""
+    ours, theirs = (Path(os.path.abspath(it)).parts for it in (path, other))
+    count = 1
+    while ours != theirs and ours[-count:] == theirs[-count:]:
+        count += 1
+    return escape(printable(os.path.join(*ours[-count:])))
+
+
+def breakable(name: str) -> str:
+    """Returns a name for the page, which may be broken between its words."""
+    return "<wbr>".join(escape(it) for it in re.split(r"(?<=[a-z0-9])(?=[A-Z])", name))
+
+
+def chip(kind: str, shown: str) -> str:
+    """Returns a word in a frame."""
+    return f'<span class="chip {kind}">{shown}</span>'
+
+
+def marked(mark: str) -> str:
+    """Returns the mark of a part after its name, if it has one."""
+    return f" {chip(mark, mark)}" if mark else ""
+
+
 def offset_cells(at: int) -> str:
     """Returns two cells of a table: an offset in decimal and hexadecimal."""
     return f'<td class="n mono">{at}<td class="n mono">{at:#x}'
 
 
-def text(value: object) -> str:
-    """Returns text for the page. Nothing from the image is taken for markup."""
-    return html.escape(str(value), quote=True)
-
-
-def breakable(name: str) -> str:
-    """Returns a name for the page, which may be broken between its words."""
-    return "<wbr>".join(text(it) for it in re.split(r"(?<=[a-z0-9])(?=[A-Z])", name))
-
-
-Box = tuple[float, float, float, float]
-# A part of a strip: its offset, its length, its colour, its title or its file, and the place that it leads to.
-Stripe = tuple[int, int, str, "str | Row", str]
-
-
-def worst_side(total: float, largest: float, smallest: float, short: float) -> float:
-    """Returns how far from a square the worst of a row of rectangles is, from the sum of their areas, their largest and
-    their smallest area, and the shorter side of the box."""
-    square = (total / short) ** 2
-    return max(square / smallest, largest / square)
-
-
-def row_of(areas: Sequence[float], start: int, short: float) -> int:
-    """Returns how many areas, the largest first, make the next row of rectangles that are almost squares."""
-    total, count = areas[start], 1
-    while start + count < len(areas):
-        longer = total + areas[start + count]
-        now = worst_side(total, areas[start], areas[start + count - 1], short)
-        if worst_side(longer, areas[start], areas[start + count], short) > now:
-            break
-        total, count = longer, count + 1
-    return count
+def exact_size(count: int) -> str:
+    """Returns a cell of a table: a number of bytes with a unit, and the exact number if it is pointed at."""
+    return f'<td class="n" title="{count:,} bytes">{amount(count)}'
 
 
 def squarified(sizes: list[int], box: Box) -> Iterator[Box]:
     """Yields rectangles of these sizes, the largest first, that are almost squares and fill a box."""
     x, y, width, height = box
     scale = width * height / sum(sizes)
-    areas, start = [size * scale for size in sizes], 0
-    while start < len(areas):
-        short = min(width, height)
-        row = areas[start : start + row_of(areas, start, short)]
-        side, along = sum(row) / short, 0.0
-        for area in row:
-            if width >= height:
-                yield x, y + along, side, area / side
-            else:
-                yield x + along, y, area / side, side
+    areas = [size * scale for size in sizes]
+    while areas:
+        is_wide, short = width >= height, min(width, height)
+        count = count_in_row(areas, short)
+        side, along = sum(areas[:count]) / short, 0.0
+        for area in areas[:count]:
+            yield (x, y + along, side, area / side) if is_wide else (x + along, y, area / side, side)
             along += area / side
-        x, y, width, height = (
-            (x + side, y, width - side, height) if width >= height else (x, y + side, width, height - side)
-        )
-        start += len(row)
+        if is_wide:
+            x, width = x + side, width - side
+        else:
+            y, height = y + side, height - side
+        areas = areas[count:]
+
+
+def count_in_row(areas: list[float], short: float) -> int:
+    """Returns how many areas, the largest first, make the next row of rectangles that are almost squares: the worst of
+    them is as near to a square as it can be. `short` is the shorter side of the box."""
+    total, worst = 0.0, math.inf
+    for count, area in enumerate(areas):
+        square = ((total + area) / short) ** 2
+        now = max(square / area, areas[0] / square)
+        if now > worst:
+            return count
+        total, worst = total + area, now
+    return len(areas)
+
+
+class Stripe(NamedTuple):
+    """A part of a strip: its offset, its length, its colour, its title, the place on the page that it leads to, and the
+    volume, or a note about bytes that are in no volume."""
+
+    at: int
+    length: int
+    color: str
+    title: str
+    place: str = ""
+    about: Sheet | str = ""
 
 
 def merged(parts: Iterable[Stripe], whole: int) -> list[Stripe]:
     """Returns the parts of a strip. Parts too thin to be seen are one part, except those that are not volumes."""
     found: list[Stripe] = []
-    thin = whole / 1200
     for part in parts:
-        at, length, color, _, place = found[-1] if found else part
-        are_thin = found and length < thin and part[1] < thin and part[0] == at + length
-        if are_thin and "none" not in (color, part[2]):
-            found[-1] = at, length + part[1], color, "several parts", place
-        elif part[1]:
+        last = found[-1] if found else part
+        are_thin = found and max(last.length, part.length) < whole / 1200 and part.at == last.at + last.length
+        if are_thin and "none" not in (last.color, part.color):
+            found[-1] = last._replace(length=last.length + part.length, title="several parts")
+        elif part.length:
             found.append(part)
     return found
 
 
-def pieces(unread: Iterable[Unread], start: int, end: int) -> Iterator[tuple[int, int, Unread | None]]:
-    """Yields the bytes between two offsets in pieces: the offset of each piece, its length, and the innermost part
-    around it, if there is one."""
-    rest = sorted(unread, key=place_of, reverse=True)
-    ends = {it for part in rest for it in (part.offset, part.offset + part.length) if start < it < end}
-    places, around = sorted({start, end, *ends}), list[Unread]()
-    for at, upto in zip(places, places[1:]):
+def pieces(parts: Iterable[Part], end: int) -> Iterator[tuple[int, int, Part | None]]:
+    """Yields the bytes up to an offset in pieces: the offset of each piece, its length, and the innermost part around
+    it, if there is one. All parts begin before the offset."""
+    rest = sorted(parts, key=lambda it: (it.offset, -it.length))[::-1]
+    places = {0, end} | {it for part in rest for it in (part.offset, part.offset + part.length) if it < end}
+    around = list[Part]()
+    for at, upto in pairwise(sorted(places)):
         while rest and rest[-1].offset <= at:
             around.append(rest.pop())
         while around and around[-1].offset + around[-1].length <= at:
             around.pop()
         yield at, upto - at, around[-1] if around else None
-
-
-def place_of(part: Part) -> tuple[int, int]:
-    """Returns a value by which parts are ordered. A part comes after the parts around it."""
-    return part.offset, -part.length
-
-
-@dataclass
-class Gap:
-    """Bytes of an image between the volumes that are drawn, or up to the first volume that is not drawn. `unread` are
-    the parts in them that are not read."""
-
-    start: int
-    end: int
-    unread: list[Unread]
-
-
-def gaps(drawing: Drawing) -> Iterator[Gap]:
-    """Yields the gap before each volume, and the gap after the last one."""
-    rest = sorted(drawing.image.unread, key=place_of, reverse=True)
-    start = 0
-    for sheet in [*drawing.sheets, None]:
-        end = sheet.volume.offset if sheet else drawing.end
-        gap = Gap(start, end, [])
-        while rest and rest[-1].offset < end:
-            gap.unread.append(rest.pop())
-        yield gap
-        start = end + (sheet.size if sheet else 0)
 
 
 class Page:
@@ -211,9 +207,7 @@ class Page:
         self._lines: list[str] = []
         self._signs = 0
         self._used: set[str] = set()
-        self._marks: set[str] = set()
         self._anchors: dict[int, str] = {}
-        self._placed: set[str] = set()
         self._left_out: Counter[str] = Counter()
 
     def add(self, *lines: str) -> None:
@@ -230,321 +224,305 @@ class Page:
                 return
             yield item
 
-    def color(self, name: str) -> str:
-        """Returns the class of a colour, and adds the colour to the legend."""
+    def use(self, name: str) -> str:
+        """Returns a class of the legend, and adds it to the legend of the page."""
         self._used.add(name)
-        return f"k-{name}"
+        return name
+
+    def color(self, kind: int) -> str:
+        """Returns the class of the colour of a type of files."""
+        return self.use(f"k-{COLORS.get(kind, 'other')}")
 
     def anchor(self, what: Volume | File) -> str:
         """Returns the name of the place of a volume or of a file's row on the page."""
         letter = "v" if isinstance(what, Volume) else "f"
         return self._anchors.setdefault(id(what), f"{letter}{len(self._anchors)}")
 
-    def placed(self, what: Volume | File) -> str:
-        """Returns the attribute of the element to which links to a volume or a file lead."""
-        self._placed.add(self.anchor(what))
-        return f' id="{self.anchor(what)}"'
+    def link(self, what: Volume | File | None, shown: str) -> str:
+        """Returns markup that leads to a volume or a file, if there is one."""
+        return f'<a href="#{self.anchor(what)}">{shown}</a>' if what else shown
 
-    def head(self, drawing: Drawing, name: str, cuts: list[str]) -> str:
-        """Returns the head of the page, which names the image and has the legend of the colours on the page."""
-        size, count = len(drawing.data), len(drawing.sheets)
-        total = sum(sheet.volume.length for sheet in drawing.sheets)
-        return f"""<header><h1>{text(name)}</h1>
-<p>{text(bytes_of(size))}, {count} volume{'s' * (count != 1)} in {percent(total, size)} of it</p>
-<p class="mono dim">SHA-256 {drawing.digest}</p>
-<p>{read_of(drawing.lacks, "#unread")}</p></header>{self.cut(cuts)}
-{self.legend()}"""
+    def table(self, titles: str, rows: Iterable[str]) -> None:
+        """Adds a table, in a box in which it scrolls if it is too wide."""
+        heads = "".join(f"<th{NUMBERS.get(it, '')}>{it}" for it in titles.split(","))
+        self.add(f'<div class="wide"><table><tr>{heads}</tr>')
+        for row in rows:
+            self.add(row)
+        self.add("</table></div>")
 
-    def cut(self, cuts: list[str]) -> str:
-        """Returns a line that says what is left out of the page, or an empty text."""
-        about = cuts + [f"{count} {what} are left out" for what, count in self._left_out.items()]
-        return f"\n<p>Not all is shown: {'; '.join(about)}.</p>" if about else ""
-
-    def strip(self, parts: Iterable[Stripe], whole: int) -> None:
-        """Adds the parts of a whole. Parts too thin to be seen are drawn as one, except those that are not volumes."""
-        self.add('<div class="strip">')
-        for part in self.up_to(MOST_PARTS, merged(parts, whole), "parts of strips"):
-            self.part(part, whole)
-        self.add("</div>")
-        self.add(f'<div class="ends"><span>{offset(0)}</span><span>{offset(whole)}</span></div>')
-
-    def part(self, part: Stripe, whole: int) -> None:
-        """Adds a part of a strip, with its name on it if there is room."""
-        at, length, color, named, place = part
-        title = named.name if isinstance(named, Row) else named
-        sides = f"left:{100 * at / whole:.4f}%;right:{100 * (whole - at - length) / whole:.4f}%"
-        about = text(f"{title}\nat {offset(at)}, {amount(length)}")
-        edge = " edge" if length > whole / 200 else ""
-        label = f"{title} {amount(length)}"
-        shown = text(label) if len(label) < 130 * length / whole else ""
-        tag, link = ("a", f' href="#{place}"') if place else ("i", "")
-        self.add(f'<{tag}{link} class="{self.color(color)}{edge}" style="{sides}" title="{about}">{shown}</{tag}>')
+    def strip(self, parts: Iterable[Stripe], whole: int, label: str = "") -> None:
+        """Adds the parts of a whole, each with its name on it if there is room."""
+        self.add(*[f'<p class="label">{label}</p>'] * bool(label), '<div class="strip">')
+        for it in self.up_to(MOST_PARTS, merged(parts, whole), "parts of strips"):
+            sides = f"left:{100 * it.at / whole:.4f}%;right:{100 * (whole - it.at - it.length) / whole:.4f}%"
+            about = escape(f"{it.title}\nat {offset(it.at)}, {amount(it.length)}")
+            color = self.use(f"k-{it.color}") + " edge" * (it.length > whole / 200)
+            name = f"{it.title} {amount(it.length)}"
+            shown = escape(name) if len(name) < 130 * it.length / whole else ""
+            tag, link = ("a", f' href="#{it.place}"') if it.place else ("i", "")
+            self.add(f'<{tag}{link} class="{color}" style="{sides}" title="{about}">{shown}</{tag}>')
+        self.add("</div>", f'<div class="ends"><span>{offset(0)}</span><span>{offset(whole)}</span></div>')
 
     def flash(self, drawing: Drawing) -> None:
-        """Adds the section of the image: where its volumes are, and the parts that are not volumes."""
-        stripes: list[tuple[Stripe, Sheet | str]] = []  # each with its volume, or with a note
-        for gap, sheet in zip(gaps(drawing), [*drawing.sheets, None]):
-            for at, length, it in pieces(gap.unread, gap.start, gap.end):
-                note = "erased" if it is None else "not erased" if it.is_gap else it.reason
-                stripes.append(((at, length, "none", it.what if it and it.what else NO_VOLUME, ""), note))
-            if sheet:
-                color = "bad" if sheet.volume.fault else "image"
-                place = sheet.volume.offset, sheet.size
-                stripes.append(((*place, color, sheet.name, self.anchor(sheet.volume)), sheet))
-        stripes.append(((drawing.end, len(drawing.data) - drawing.end, "unread", "not shown", ""), ""))
-        others = [it for it in stripes if it[0][1] and isinstance(it[1], str)]
-        kept = {it[0][0] for it in self.up_to(MOST_PIECES, others, "parts beside volumes")}
-        stripes = [it for it in stripes if it[0][1] and (isinstance(it[1], Sheet) or it[0][0] in kept)]
-        self.add("<section><h2>The image</h2>")
-        if not drawing.sheets:
-            self.add("<p>No firmware volume was found in this image.</p>")
-        self.strip([stripe for stripe, _ in stripes], len(drawing.data))
-        self.add('<div class="wide"><table><tr><th>Volume<th class="n" colspan="2">Offset<th class="n">Size')
-        self.add('<th class="n">Files<th>Used<th class="n">Pads<th class="n">Free<th>Verdict</tr>')
-        for (at, length, _, title, _), its in stripes:
-            if isinstance(its, Sheet):
-                self.rows(its, 0)
+        """Adds the section of the image: where its volumes are, and the parts that are not volumes. It is drawn up to
+        the first volume that is left out."""
+        size, sheets = len(drawing.image.data), {id(it.part): it for it in drawing.sheets}
+        end = next((it.offset for it in drawing.image.volumes[len(sheets) :]), size)
+        parts = [*(it.part for it in drawing.sheets), *(it for it in drawing.image.unread if it.offset < end)]
+        stripes: list[Stripe] = []
+        for at, length, it in pieces(parts, end):
+            if isinstance(it, Volume):
+                sheet, color = sheets[id(it)], "bad" if it.fault else "image"
+                stripes.append(Stripe(at, length, color, sheet.name, self.anchor(it), sheet))
+            elif isinstance(it, Unread):
+                note = "not erased" if it.is_gap else it.reason
+                stripes.append(Stripe(at, length, "none", it.what or NO_VOLUME, about=note))
             else:
-                cells = f'{text(title)}{offset_cells(at)}<td class="n">{amount(length)}'
-                self.add(f'<tr class="dim"><td class="name">{cells}<td colspan="5">{text(its)}</tr>')
-        self.add("</table></div></section>")
+                stripes.append(Stripe(at, length, "none", NO_VOLUME, about="erased"))
+        if end < size:
+            stripes.append(Stripe(end, size - end, "unread", "not shown"))
+        others = [it.at for it in stripes if isinstance(it.about, str)]
+        kept = {*self.up_to(MOST_PIECES, others, "parts beside volumes")}
+        stripes = [it for it in stripes if isinstance(it.about, Sheet) or it.at in kept]
+        self.add("<section><h2>The image</h2>")
+        if not sheets:
+            self.add("<p>No firmware volume was found in this image.</p>")
+        self.strip(stripes, size)
+        self.table("Volume,Offset,Size,Files,Used,Pads,Free,Verdict", chain.from_iterable(map(self.rows_of, stripes)))
+        self.add("</section>")
 
-    def rows(self, sheet: Sheet, depth: int) -> None:
-        """Adds the row of a volume to the table of volumes, and the rows of the volumes inside."""
-        at, length = sheet.volume.offset, sheet.volume.length
-        self.add(
-            f'<tr><td class="name" style="padding-left:{18 * depth}px"><a href="#{self.anchor(sheet.volume)}">'
-            f'{text(sheet.name)}</a>{offset_cells(at)}<td class="n">{amount(length)}'
-        )
-        if sheet.stretches:
-            used = sheet.sum_of("header", "file")
-            width = f"width:{100 * used / length:.1f}%"
-            meter = f'<span class="meter"><i style="{width}"></i></span> {percent(used, length)}'
-            rest = "".join(f'<td class="n">{amount(sheet.sum_of(what))}' for what in ("pad", "free"))
-            self.add(f'<td class="n">{len(sheet.rows)}<td>{meter}{rest}')
+    def rows_of(self, stripe: Stripe) -> Iterator[str]:
+        """Yields the rows of a part of the image in the table of volumes."""
+        if isinstance(stripe.about, Sheet):
+            yield from self.rows(stripe.about, 0)
         else:
-            self.add("<td><td><td><td>")
-        self.add(f"<td>{self.verdict(sheet)}</tr>")
-        for row in sheet.rows:
-            for held in row.held:
-                for inner in held.volumes:
-                    self.rows(inner, depth + 1)
+            cells = f'{escape(stripe.title)}{offset_cells(stripe.at)}<td class="n">{amount(stripe.length)}'
+            yield f'<tr class="dim"><td class="name">{cells}<td colspan="5">{escape(stripe.about)}</tr>'
 
-    def verdict(self, sheet: Sheet) -> str:
-        """Returns the verdict on a volume: whether it is its own canonical image, or its fault; and how many of its
-        files are fixed."""
-        if sheet.volume.fault:
-            return f'<span class="chip bad">{text(meaning_of(sheet.volume.fault))}</span>'
-        kind, verdict = ("good", "canonical") if sheet.is_canonical else ("fair", "not canonical")
-        fixed = f' <span class="chip fair">{sheet.fixed}</span>' if sheet.fixed else ""
-        return f'<span class="chip {kind}">{verdict}</span>{fixed}'
+    def rows(self, sheet: Sheet, depth: int) -> Iterator[str]:
+        """Yields the row of a volume in the table of volumes, and the rows of the volumes inside."""
+        at, length = sheet.part.offset, sheet.part.length
+        filled = "<td><td><td><td>"
+        if sheet.cells is not None:
+            used = percent(sheet.head + sheet.sum_of(CellKind.FILE), length)
+            meter = f'<span class="meter"><i style="width:{used.replace(" ", "")}"></i></span> {used}'
+            rest = "".join(f'<td class="n">{amount(sheet.sum_of(it))}' for it in (CellKind.PAD, CellKind.FREE))
+            filled = f'<td class="n">{len(sheet.rows)}<td>{meter}{rest}'
+        yield (
+            f'<tr><td class="name" style="padding-left:{18 * depth}px">{self.link(sheet.part, escape(sheet.name))}'
+            f'{offset_cells(at)}<td class="n">{amount(length)}{filled}<td>{verdict(sheet)}</tr>'
+        )
+        for inner in (it for row in sheet.rows for it in row.inner):
+            yield from self.rows(inner, depth + 1)
 
-    def volume(self, sheet: Sheet, inside: str = "") -> None:
-        """Adds a volume: its figures, where its parts are, how large its files are, and the volumes in them."""
-        self.add(f"<section{self.placed(sheet.volume)}><h2>{text(sheet.name)} {self.verdict(sheet)}</h2>")
-        volume = sheet.volume
-        facts = [f"{inside}at {offset(volume.offset)}", bytes_of(volume.length), volume.type_name]
-        whats = {"file": "files", "pad": "pads", "free": "free"}
-        facts += [f"{name} {amount(sheet.sum_of(what))}" for what, name in whats.items() if sheet.sum_of(what)]
-        gone = sheet.sum_of("deleted", "unfinished")
-        facts += [f"deleted or unfinished {amount(gone)}"] if gone else []
-        self.add(f"<p>{text(' · '.join(fact for fact in facts if fact))}</p>")
-        self.places(sheet)
-        if len(sheet.rows) > 2 and any(row.file.length for row in sheet.rows):
-            self.add('<p class="label">How large the files are</p>')
+    def volume(self, sheet: Sheet, holder: str = "") -> None:
+        """Adds a volume: its figures, where its parts are and were before, how large its files are, and the volumes in
+        them. `holder` is the name of the file around it."""
+        volume, before = sheet.part, sheet.before
+        around = f"in {holder} ({opened(sheet.section)}) " if sheet.section else ""
+        sums = ((name, sheet.sum_of(*kinds)) for name, kinds in SUMS.items())
+        facts = [f"{around}at {offset(volume.offset)}", bytes_of(volume.length), volume.type_name]
+        facts += [f"{name} {amount(size)}" for name, size in sums if size]
+        self.add(
+            f'<section id="{self.anchor(volume)}"><h2>{escape(sheet.name)} {verdict(sheet)}</h2>',
+            f"<p>{escape(' · '.join(filter(None, facts)))}</p>",
+        )
+        now, was = self.stripes(sheet, True), self.stripes(before, False) if before else []
+        has_moved = bool(now and was and before and before.layout != sheet.layout)
+        if before and has_moved:
+            self.strip(was, before.part.length, "Where it lay before")
+        if now:
+            self.strip(now, volume.length, "Where it lies" + " now" * has_moved)
+        if len(sheet.rows) > 2 and any(row.part.length for row in sheet.rows):
             self.areas(sheet)
         if sheet.rows:
-            self.table(sheet)
+            self.add(f"<details open><summary>{len(sheet.rows)} file{'s' * (len(sheet.rows) != 1)}</summary>")
+            self.table("Offset,Name,Type,Size,,Sections,GUID,SHA-256", self.files(sheet.rows))
+            self.add("</details>")
         for row in sheet.rows:
-            for held in row.held:
-                size = amount(held.size)
-                if held.packed != held.size:
-                    size = f"{amount(held.packed)} unpacked to {size}"
-                for inner in held.volumes:
-                    self.volume(inner, f"in {row.name} ({held.how}, {size}) ")
+            for inner in row.inner:
+                self.volume(inner, row.name)
         self.add("</section>")
 
-    def places(self, sheet: Sheet) -> None:
-        """Adds where the parts of a volume are, and where they were before."""
-        if not sheet.stretches:
-            return
-        label = "Where it lies"
-        if sheet.before and sheet.before.stretches and sheet.before.stretches != sheet.stretches:
-            self.add('<p class="label">Where it lay before</p>')
-            self.stretches(sheet.before, False)
-            label = "Where it lies now"
-        self.add(f'<p class="label">{label}</p>')
-        self.stretches(sheet, True)
-
-    def stretches(self, sheet: Sheet, is_drawn: bool) -> None:
-        """Adds the parts of a volume as a strip. The parts of the drawn image lead to the rows of its files."""
-        rows = {row.at: row for row in sheet.rows}
-        stripes: list[Stripe] = []
-        for it in sheet.stretches:
-            row = rows.get(it.at)
-            if row:
-                place = self.anchor(row.file) if is_drawn else ""
-                stripes.append((it.at, it.length, COLORS.get(it.kind, "other"), row, place))
+    def stripes(self, sheet: Sheet, is_drawn: bool) -> list[Stripe]:
+        """Returns the parts of a volume. The parts of the drawn image lead to the rows of its files."""
+        if sheet.cells is None:
+            return []
+        found, rows = [Stripe(0, sheet.head, "header", "header")], {row.at: row for row in sheet.rows}
+        for it in sheet.cells:
+            name = it.kind.name.lower()
+            if row := rows.get(it.offset):
+                place = self.anchor(row.part) if is_drawn else ""
+                found.append(Stripe(it.offset, it.length, COLORS.get(row.part.kind, "other"), row.name, place))
             else:
-                name, color = GONE.get(it.what, (it.what, it.what))
-                stripes.append((it.at, it.length, color, name, ""))
-        self.strip(stripes, sheet.volume.length)
+                color = name if it.kind in (CellKind.PAD, CellKind.FREE) else "deleted"
+                found.append(Stripe(it.offset, it.length, color, REMAINS.get(it.kind, (name,))[0]))
+        return found
 
     def areas(self, sheet: Sheet) -> None:
-        """Adds files as rectangles of their sizes. The style hides a name that has no room."""
-        found = sorted((row for row in sheet.rows if row.size), key=lambda it: -it.size)
+        """Adds files as rectangles of their sizes, which lead to the rows of the files. The style hides a name that has
+        no room."""
+        found = sorted((row for row in sheet.rows if row.part.length), key=lambda it: -it.part.length)
         rows = list(self.up_to(MOST_DRAWN, found, "areas"))
+        sizes = [row.part.length for row in rows]
         height = 560 if len(rows) > 40 else 340 if len(rows) > 8 else 180
-        total = sum(row.size for row in rows)
-        boxes = squarified([row.size for row in rows], (0, 0, 1100, height))
-        self.add(f'<div class="areas" style="height:{height}px" role="group" aria-label="sizes of files">')
-        for row, box in zip(rows, boxes):
-            self.area(row, box, total)
+        self.add(
+            '<p class="label">How large the files are</p>',
+            f'<div class="areas" style="height:{height}px" role="group" aria-label="sizes of files">',
+        )
+        for row, (x, y, width, tall) in zip(rows, squarified(sizes, (0, 0, 1100, height))):
+            file = row.part
+            share = f"{bytes_of(file.length)}, {percent(file.length, sum(sizes))} of the files"
+            about = "\n".join(filter(None, [row.name, file.type_name, share, str(file.guid), row.mark]))
+            if row.mark:
+                self.use(f"mark {row.mark}")
+            sides = f"left:{x / 11:.3f}%;top:{y:.1f}px;width:{width / 11:.3f}%;height:{tall:.1f}px"
+            color = f'<span class="{self.color(file.kind)} {row.mark}">'
+            self.add(
+                f'<a href="#{self.anchor(file)}" style="{sides}" title="{escape(about)}">{color}',
+                f"<b>{breakable(row.name)}</b><small>{amount(file.length)}</small></span></a>",
+            )
         self.add("</div>")
 
-    def area(self, row: Row, box: Box, total: int) -> None:
-        """Adds a file as a rectangle of its size, a part of the total. The rectangle leads to the row of the file."""
-        x, y, width, tall = box
-        file, name = row.file, row.name
-        share = f"{bytes_of(file.length)}, {percent(file.length, total)} of the files"
-        about = f"{name}\n{file.type_name}\n{share}\n{file.guid}"
-        if row.mark:
-            about += f"\n{row.mark}"
-            self._marks.add(row.mark)
-        sides = f"left:{x / 11:.3f}%;top:{y:.1f}px;width:{width / 11:.3f}%;height:{tall:.1f}px"
-        color = self.color(COLORS.get(file.kind, "other"))
-        place = f'href="#{self.anchor(file)}"'
-        self.add(f'<a {place} style="{sides}" title="{text(about)}"><span class="{color} {row.mark}">')
-        self.add(f"<b>{breakable(name)}</b><small>{amount(file.length)}</small></span></a>")
+    def files(self, rows: list[Row]) -> Iterator[str]:
+        """Yields the rows of the files of a volume, in their order."""
+        most = max(row.part.length for row in rows) or 1
+        for row in self.up_to(MOST_ROWS, rows, "rows of files"):
+            file, width = row.part, max(50 * row.part.length / most, 1)
+            yield (
+                f'<tr id="{self.anchor(file)}">{offset_cells(row.at)}<td class="name">{breakable(row.name)}'
+                f'{marked(row.mark)}<td>{escape(file.type_name)}{", fixed" * file.is_fixed}{exact_size(file.length)}'
+                f'<td><i class="bar {self.color(file.kind)}" style="width:{width:.0f}px"></i>'
+                f'<td class="long dim">{escape(contents(file))}<td class="mono dim">{file.guid}'
+                f'<td class="mono dim">{(row.digest or b"").hex()}</tr>'
+            )
 
-    def table(self, sheet: Sheet) -> None:
-        """Adds the table of the files of a volume, in their order."""
-        most = max(row.size for row in sheet.rows) or 1
-        count = f"{len(sheet.rows)} file{'s' * (len(sheet.rows) != 1)}"
-        self.add(f'<details open><summary>{count}</summary><div class="wide"><table>')
-        self.add('<tr><th class="n" colspan="2">Offset<th>Name<th>Type<th class="n">Size<th><th>Sections<th>GUID')
-        self.add("<th>SHA-256</tr>")
-        for row in self.up_to(MOST_ROWS, sheet.rows, "rows of files"):
-            self.file_row(row, most)
-        self.add("</table></div></details>")
-
-    def file_row(self, row: Row, most: int) -> None:
-        """Adds the row of a file. The largest file has `most` bytes."""
-        file = row.file
-        parts = [f"{it.type_name} {amount(it.length)}" for it in file.sections[:MOST_SECTIONS]]
-        parts += ["…"] if len(file.sections) > MOST_SECTIONS else []
-        parts += [f"({it})" for it in row.notes[:MOST_NOTES]]
-        mark = f' <span class="chip {row.mark}">{row.mark}</span>' if row.mark else ""
-        width = max(50 * file.length / most, 1)
-        bar = f'<i class="bar {self.color(COLORS.get(file.kind, "other"))}" style="width:{width:.0f}px"></i>'
-        self.add(
-            f"<tr{self.placed(file)}>{offset_cells(row.at)}"
-            f'<td class="name">{breakable(row.name)}{mark}<td>{text(file.type_name)}'
-            f'{", fixed" * file.is_fixed}<td class="n" title="{file.length:,} bytes">{amount(file.length)}<td>{bar}'
-            f'<td class="long dim">{text(", ".join(parts))}<td class="mono dim">{text(file.guid)}'
-            f'<td class="mono dim">{row.digest.hex() if row.digest else ""}</tr>'
-        )
-
-    def against(self, old: Drawing, new: Drawing, found: Changes) -> None:
+    def against(self, old: Drawing, new: Drawing) -> None:
         """Adds the names of the two images, and the files that came, went and changed."""
-        self.add(f"<section><h2>Against {text(name_of(old.path, new.path))}</h2>")
-        self.add('<div class="wide"><table><tr><th><th>Image<th class="n">Size<th>SHA-256<th>Read</tr>')
-        for when, drawing, other in (("before", old, new), ("now", new, old)):
-            self.add(f'<tr><td>{when}<td class="name">{text(name_of(drawing.path, other.path))}')
-            self.add(f'<td class="n">{text(bytes_of(len(drawing.data)))}<td class="mono dim">{drawing.digest}')
-            self.add(f"<td>{read_of(drawing.lacks)}</tr>")
-        self.add("</table></div>")
-        if old.data == new.data:
+        found = changes(old, new)
+        self.add(f"<section><h2>Against {name_of(old.path, new.path)}</h2>")
+        rows = (
+            f'<tr><td>{when}<td class="name">{name_of(it.path, other.path)}<td class="n">{bytes_of(len(it.image.data))}'
+            f'<td class="mono dim">{it.digest}<td>{read_of(it)}</tr>'
+            for when, it, other in (("before", old, new), ("now", new, old))
+        )
+        self.table(",Image,Size,SHA-256,Read", rows)
+        if old.image.data == new.image.data:
             self.add("<p>The two have the same bytes.</p>")
-        counts = {kind: sum(it.kind == kind for it in found.files) for kind in ("came", "went", "changed")}
-        self.add("<p>", *[f'<span class="chip {kind}">{count} {kind}</span>' for kind, count in counts.items()], "</p>")
-        if found.came or found.went:
-            self.add(f"<p>Of the parts that are not read, {found.came} came or changed, and {found.went} went.</p>")
-        if found.files:
-            self.changes(found)
+        counts = Counter(it.kind for it in found)
+        self.add("<p>", *(chip(kind, f"{counts[kind]} {kind}") for kind in ("came", "went", "changed")), "</p>")
+        came, went = (sum(bool(it.mark) for it in drawing.lacks) for drawing in (new, old))
+        if came or went:
+            self.add(f"<p>Of the parts that are not read, {came} came or changed, and {went} went.</p>")
+        if found:
+            self.table(",File,Before,Now,By,In", map(self.change, self.up_to(MOST_ROWS, found, "rows of changes")))
         self.add("</section>")
 
-    def changes(self, found: Changes) -> None:
-        """Adds the table of the files that came, went or changed."""
-        self.add('<div class="wide"><table>')
-        self.add('<tr><th><th>File<th class="n">Before<th class="n">Now<th class="n">By<th>In</tr>')
-        for it in self.up_to(MOST_ROWS, found.files, "rows of changes"):
-            sizes = [f'<td class="n">{amount(side.size) if side else "–"}' for side in (it.old, it.new)]
-            by = f"{'+' if it.by > 0 else '−' if it.by < 0 else ''}{amount(abs(it.by))}"
-            part = it.new or it.old
-            name = breakable(part.name) if part else ""
-            name = f'<a href="#{self.anchor(it.new.part)}">{name}</a>' if it.new else name
-            self.add(
-                f'<tr><td><span class="chip {it.kind}">{it.kind}</span><td class="name">{name}'
-                f'{"".join(sizes)}<td class="n" title="{it.by:+,} bytes">{by}<td class="long dim">{text(it.where)}</tr>'
-            )
-        self.add("</table></div>")
+    def change(self, it: Change) -> str:
+        """Returns the row of a file that came, went or changed."""
+        sizes = (f'<td class="n">{amount(side.part.length) if side else "–"}' for side in (it.old, it.new))
+        sign = "+" if it.by > 0 else "−" if it.by < 0 else ""
+        name = self.link(it.new.part if it.new else None, breakable(it.name))
+        by = f'<td class="n" title="{it.by:+,} bytes">{sign}{amount(abs(it.by))}'
+        cells = f'<td class="name">{name}{"".join(sizes)}{by}<td class="long dim">{escape(it.where)}'
+        return f"<tr><td>{chip(it.kind, it.kind)}{cells}</tr>"
 
-    def unread(self, lacks: list[Lack]) -> None:
+    def unread(self, drawing: Drawing) -> None:
         """Adds the table of the parts that are not read."""
-        self.add(f'<section id="unread"><h2>Not read</h2><p>{text(sizes_of(lacks))}. An offset in an opened section')
-        self.add("counts from the first byte of its contents.</p>")
-        is_open = " open" * (len(lacks) <= MOST_OPEN)
-        self.add(f'<details{is_open}><summary>The parts</summary><div class="wide"><table><tr>')
-        self.add('<th class="n" colspan="2">Offset<th class="n">Size<th>What<th>Why<th>In</tr>')
-        for it in self.up_to(MOST_ROWS, lacks, "rows of parts that are not read"):
-            mark = f' <span class="chip {it.mark}">{it.mark}</span>' if it.mark else ""
-            where = text(it.where or "the image")
-            where = f'<a href="#{self.anchor(it.near)}">{where}</a>' if it.near else where
-            size = f'<td class="n" title="{it.part.length:,} bytes">{amount(it.part.length)}'
-            self.add(
-                f"<tr>{offset_cells(it.part.offset)}{size}<td>{text(it.what)}{mark}"
-                f'<td class="long dim">{text(it.reason)}<td class="long">{where}</tr>'
-            )
-        self.add("</table></div></details></section>")
+        lacks = drawing.lacks
+        self.add(
+            f'<section id="unread"><h2>Not read</h2><p>{lacks_of(drawing)}. An offset in an opened section',
+            "counts from the first byte of its contents.</p>",
+            f'<details{" open" * (len(lacks) <= MOST_OPEN)}><summary>The parts</summary>',
+        )
+        shown = self.up_to(MOST_ROWS, lacks, "rows of parts that are not read")
+        self.table("Offset,Size,What,Why,In", map(self.lack, shown))
+        self.add("</details></section>")
 
-    def legend(self) -> str:
-        """Returns the legend of the colours on the page."""
-        shown = [f'<span><i class="k-{key}"></i>{text(it)}</span>' for key, it in LEGEND.items() if key in self._used]
-        shown += [f'<span><i class="mark {it}"></i>{it}</span>' for it in ("came", "changed") if it in self._marks]
-        return f'<p class="legend">{"".join(shown)}</p>'
+    def lack(self, it: Lack) -> str:
+        """Returns the row of a part that is not read."""
+        where = self.link(it.near, escape(it.where or "the image"))
+        return (
+            f"<tr>{offset_cells(it.part.offset)}{exact_size(it.part.length)}<td>{escape(it.what)}{marked(it.mark)}"
+            f'<td class="long dim">{escape(it.reason)}<td class="long">{where}</tr>'
+        )
 
-    def whole(self, head: str, title: str) -> str:
-        """Returns the page. A link to something that is left out leads nowhere."""
-        parts = {"TITLE": text(title), "STYLE": STYLE}
-        start = re.sub("@([A-Z]+)@", lambda it: parts[it[1]], START)
+    def whole(self, drawing: Drawing, other: Drawing) -> str:
+        """Returns the page, with what is left out of it, and the legend of the colours on it. A link to something that
+        is left out leads nowhere."""
+        name = name_of(drawing.path, other.path)
+        size, count = len(drawing.image.data), len(drawing.sheets)
+        used = percent(sum(sheet.part.length for sheet in drawing.sheets), size)
+        cuts = drawing.cuts + [f"before, {it}" for it in other.cuts if other is not drawing]
+        cuts += [f"{most} {what} are left out" for what, most in self._left_out.items()]
+        cut = f"\n<p>Not all is shown: {'; '.join(cuts)}.</p>" if cuts else ""
+        legend = (f'<span><i class="{key}"></i>{it}</span>' for key, it in LEGEND.items() if key in self._used)
         body = "\n".join(self._lines)
-        body = re.sub(' href="#([vf][0-9]+)"', lambda it: it[0] if it[1] in self._placed else "", body)
-        return "\n".join([start, head, body, "</body></html>\n"])
-
-
-def read_of(lacks: list[Lack], place: str = "") -> str:
-    """Returns a line that says whether everything was read. It may lead to a place."""
-    if not lacks:
-        return '<span class="chip good">Everything was read.</span>'
-    tag, link = ("a", f' href="{place}"') if place else ("span", "")
-    return f'<{tag} class="chip bad"{link}>Not read: {text(sizes_of(lacks))}</{tag}>'
-
-
-def sizes_of(lacks: list[Lack]) -> str:
-    """Returns how many parts are not read, and how many bytes they have."""
-    return f"{len(lacks):,} part{'s' * (len(lacks) != 1)}, {bytes_of(bytes_in(lacks))}"
-
-
-def page_of(drawing: Drawing, other: Drawing | None, found: Changes) -> str:
-    """Returns the page of an image, which shows what changed since the other image if there is one."""
-    page = Page()
-    page.flash(drawing)
-    if other:
-        page.against(other, drawing, found)
-    if drawing.lacks:
-        page.unread(drawing.lacks)
-    for sheet in drawing.sheets:
-        page.volume(sheet)
-    name = name_of(drawing.path, other.path if other else None)
-    cuts = drawing.cuts + [f"before, {it}" for it in (other.cuts if other else [])]
-    return page.whole(page.head(drawing, name, cuts), name)
-
-
-START = """<!doctype html>
+        placed = {*re.findall(' id="([vf][0-9]+)"', body)}
+        body = re.sub(' href="#([vf][0-9]+)"', lambda it: it[0] if it[1] in placed else "", body)
+        return f"""<!doctype html>
 <html lang="en"><head><meta charset="utf-8">
 <meta http-equiv="Content-Security-Policy" content="default-src 'none'; style-src 'unsafe-inline'">
-<meta name="viewport" content="width=device-width"><title>@TITLE@</title><style>@STYLE@</style></head><body>"""
+<meta name="viewport" content="width=device-width"><title>{name}</title><style>{STYLE}</style></head><body>
+<header><h1>{name}</h1>
+<p>{bytes_of(size)}, {count} volume{'s' * (count != 1)} in {used} of it</p>
+<p class="mono dim">SHA-256 {drawing.digest}</p>
+<p>{read_of(drawing, "#unread")}</p></header>{cut}
+<p class="legend">{"".join(legend)}</p>
+{body}
+</body></html>
+"""
+
+
+def verdict(sheet: Sheet) -> str:
+    """Returns the verdict on a volume: whether it is its own canonical image, or its fault; and how many of its files
+    are fixed."""
+    volume = sheet.part
+    if volume.fault:
+        return chip("bad", escape(meaning_of(volume.fault)))
+    said = chip("good", "canonical") if sheet.is_canonical else chip("fair", "not canonical")
+    fixed = f"{len(volume.fixed)} of {len(volume.files)} files fixed"
+    return f"{said} {chip('fair', fixed)}" if volume.fixed else said
+
+
+def opened(section: Section) -> str:
+    """Returns how a section was opened, and its packed and unpacked size."""
+    it = section.opened
+    how, size = (it.way.name, len(it.data)) if it else ("stored", section.length)
+    packed = f"{amount(section.length)} unpacked to " if size != section.length else ""
+    return f"{how}, {packed}{amount(size)}"
+
+
+def contents(file: File) -> str:
+    """Returns the first sections of a file, and why some of them are not opened or may be opened wrongly."""
+    parts = [f"{it.type_name} {amount(it.length)}" for it in file.sections[:MOST_SECTIONS]]
+    parts += ["…"] * (len(file.sections) > MOST_SECTIONS)
+    found = list(leaves(file.sections))
+    notes = [f"(not opened: {it.type_name}: {it.closed})" for it in found if it.closed]
+    notes += [f"({it.type_name}: {doubt})" for it in found if it.opened for doubt in it.opened.doubts]
+    return ", ".join(parts + notes[:MOST_NOTES])
+
+
+def read_of(drawing: Drawing, place: str = "") -> str:
+    """Returns a line that says whether everything was read. It may lead to a place."""
+    if not drawing.lacks:
+        return chip("good", "Everything was read.")
+    tag, link = ("a", f' href="{place}"') if place else ("span", "")
+    return f'<{tag} class="chip bad"{link}>Not read: {lacks_of(drawing)}</{tag}>'
+
+
+def draw(drawing: Drawing, against: Drawing | None) -> str:
+    """Returns the page of an image, which shows what changed since another image if there is one."""
+    page = Page()
+    page.flash(drawing)
+    if against:
+        page.against(against, drawing)
+    if drawing.lacks:
+        page.unread(drawing)
+    for sheet in drawing.sheets:
+        page.volume(sheet)
+    return page.whole(drawing, against or drawing)
+
 
 STYLE = """
 :root{color-scheme:light dark;--page:#fbfbfa;--card:#fff;--text:#1d2126;--dim:#5d6670;--line:#dfe2e5;--link:#2b5f92;

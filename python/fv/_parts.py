@@ -11,13 +11,13 @@ from collections.abc import Iterable, Iterator
 from dataclasses import dataclass, field, replace
 
 from . import cli
-from .images import Content, File, Opened, Part, Section, Unread, Volume
+from .images import OUTSIDE, Content, File, Opened, Part, Section, Unread, Volume
 from .limits import Full
 from .names import DEPEX, PE32, TE, Names
+from .opened import is_uniform
 from .shown import file_name
 
 IMAGE = "image"  # `within` of a part that is not in an opened section: its offset counts from the image's start
-OUTSIDE = "it is in no volume"  # why bytes are not read if the reader gives no other reason
 # Parts lie in one another, and each has a digest. All digests of an image cover at most this many bytes, and this many
 # times its own length.
 LEAST_DIGESTED, TIMES_DIGESTED = 1 << 29, 16
@@ -34,7 +34,7 @@ class Digests:
         if part.length > self._left:
             raise Full(f"{self._most} bytes under digests")
         self._left -= part.length
-        return hashlib.sha256(memoryview(part.data)[part.offset : part.offset + part.length]).hexdigest()
+        return hashlib.sha256(part.view).hexdigest()
 
 
 @dataclass
@@ -78,7 +78,7 @@ class Place:
 def entries(image: Content, names: Names) -> Iterator[Entry]:
     """Yields the parts of an image that was read with its sections opened."""
     digests = Digests(LEAST_DIGESTED + TIMES_DIGESTED * len(image.data))
-    for it in _Walk(names).image(image):
+    for it in _Walk(names).content(image, "", Place()):
         it.digests = digests
         yield it
 
@@ -90,11 +90,12 @@ class _Walk:
         self._names = names
         self._volumes = 0
 
-    def image(self, image: Content) -> Iterator[Entry]:
-        """Yields the parts of an image."""
-        for volume in image.volumes:
-            yield from self._volume(volume, Place())
-        yield from _others(image, "", IMAGE)
+    def content(self, content: Content, path: str, place: Place) -> Iterator[Entry]:
+        """Yields the parts of an image, or of an opened section."""
+        yield from self._sections(content.sections, path, place)
+        for volume in content.volumes:
+            yield from self._volume(volume, place)
+        yield from _others(content, path, place.within)
 
     def _volume(self, volume: Volume, place: Place) -> Iterator[Entry]:
         """Yields a volume, its files, and the bytes in it that are not read."""
@@ -140,25 +141,22 @@ class _Walk:
                 yield _doubted(entry, "read", [section.closed] if section.closed else [])
                 yield from self._sections(section.sections, inner, place)
             else:
-                yield self._leaf(section, f"{path}{_numbered(_name_of(section), counts)}", place.within)
+                ending = "efi" if section.kind in (PE32, TE) else "bin"
+                name = _numbered(f"{file_words(section.type_name)}.{ending}", counts)
+                yield self._leaf(Entry(f"{path}{name}", section, place.within, "section", section.type_name), section)
 
     def _opened(self, section: Section, content: Opened, path: str, place: Place) -> Iterator[Entry]:
         """Yields an opened section, and its contents."""
         note = f"{content.way.name}: {len(content.data)} bytes"
         entry = Entry(path, section, place.within, "section", section.type_name, note=note)
         yield _doubted(entry, "opened", content.doubts)
-        inside = replace(place, within=path)
-        yield from self._sections(content.sections, path, inside)
-        for volume in content.volumes:
-            yield from self._volume(volume, inside)
-        yield from _others(content, path, path)
+        yield from self.content(content, path, replace(place, within=path))
 
-    def _leaf(self, section: Section, path: str, within: str) -> Entry:
-        """Returns a section that holds bytes, or that is not opened."""
-        entry = Entry(path, section, within, "section", section.type_name)
+    def _leaf(self, entry: Entry, section: Section) -> Entry:
+        """Returns the entry of a section that holds bytes, or that is not opened, with a note."""
         if section.closed:
             note = f"not opened: {section.closed}"
-            return replace(entry, note=note, line=f"{path}: {note}", status=cli.OTHER)
+            return _lacking(entry, note, note)
         return replace(entry, note=self._names.depex(section.body)) if section.kind in DEPEX else entry
 
 
@@ -168,8 +166,12 @@ def _doubted(entry: Entry, done: str, doubts: list[str]) -> Entry:
     if not doubts:
         return entry
     doubt = "; ".join(doubts)
-    note = f"{entry.note}; {doubt}" if entry.note else doubt
-    return replace(entry, note=note, line=f"{entry.path}: {done}, but {doubt}", status=cli.OTHER)
+    return _lacking(entry, f"{entry.note}; {doubt}" if entry.note else doubt, f"{done}, but {doubt}")
+
+
+def _lacking(entry: Entry, note: str, what: str) -> Entry:
+    """Returns the entry of a part that is not read, or may be wrong, with a note and a line that say so."""
+    return replace(entry, note=note, line=f"{entry.path}: {what}", status=cli.OTHER)
 
 
 def _others(content: Content, folder: str, within: str) -> Iterator[Entry]:
@@ -177,7 +179,7 @@ def _others(content: Content, folder: str, within: str) -> Iterator[Entry]:
     read."""
     gaps = {(it.offset, it.length): it for it in content.unread if it.is_gap}
     for part in content.others:
-        if not _is_uniform(part):
+        if not is_uniform(part.data, part.offset, part.end):
             otherwise = Unread(part.data, part.offset, part.length, "", OUTSIDE, is_gap=True)
             yield _gap(gaps.pop((part.offset, part.length), otherwise), folder, within)
     rest = (it for it in content.unread if not it.is_gap or (it.offset, it.length) in gaps)
@@ -187,7 +189,7 @@ def _others(content: Content, folder: str, within: str) -> Iterator[Entry]:
 def _gap(gap: Unread, folder: str, within: str) -> Entry:
     """Returns the entry of bytes that are in no volume and in no section."""
     path = f"{folder}outside-{gap.offset:08x}.bin"
-    return _not_read(Entry(path, gap, within, "outside", gap.what, gap.guid), gap.reason)
+    return _lacking(Entry(path, gap, within, "outside", gap.what, gap.guid), gap.reason, f"not read: {gap.reason}")
 
 
 def _unread(found: Iterable[Unread], folder: str, within: str) -> Iterator[Entry]:
@@ -198,18 +200,7 @@ def _unread(found: Iterable[Unread], folder: str, within: str) -> Iterator[Entry
             yield _gap(it, folder, within)
         else:
             path = folder + _numbered(f"{file_name(file_words(it.what))}-{it.offset:08x}.bin", counts)
-            yield _not_read(Entry(path, it, within, "unread", it.what, it.guid), it.reason)
-
-
-def _not_read(entry: Entry, reason: str) -> Entry:
-    """Returns the entry of bytes that are not read, with the reason."""
-    return replace(entry, note=reason, line=f"{entry.path}: not read: {reason}", status=cli.OTHER)
-
-
-def _is_uniform(part: Part) -> bool:
-    """Returns whether all bytes of a part are equal."""
-    end = part.offset + part.length
-    return part.data.count(part.data[part.offset : part.offset + 1], part.offset, end) == part.length
+            yield _lacking(Entry(path, it, within, "unread", it.what, it.guid), it.reason, f"not read: {it.reason}")
 
 
 def _numbered(name: str, counts: Counter[str]) -> str:
@@ -217,12 +208,6 @@ def _numbered(name: str, counts: Counter[str]) -> str:
     counts[name] += 1
     stem, dot, ending = name.partition(".")
     return name if counts[name] == 1 else f"{stem}-{counts[name]}{dot}{ending}"
-
-
-def _name_of(section: Section) -> str:
-    """Returns the file name for a section."""
-    ending = "efi" if section.kind in (PE32, TE) else "bin"
-    return f"{file_words(section.type_name)}.{ending}"
 
 
 def file_words(kind: str) -> str:

@@ -12,7 +12,7 @@ from typing import Any, ClassVar, TypeVar, overload
 
 from . import _native as native
 from ._errors import Fault, fault_of
-from ._native import CellKind, Content, NodeKind, Phase
+from ._native import CellKind, Content, NodeKind
 
 Item = TypeVar("Item")
 

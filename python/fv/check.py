@@ -25,6 +25,7 @@ library libfv, LIST or ANSWERS cannot be used, or an answer cannot be written.""
 
 from __future__ import annotations
 
+import argparse
 import contextlib
 import fcntl
 import os
@@ -62,14 +63,12 @@ def line(status: int, verdicts: str, name: bytes) -> bytes:
 def shown(name: bytes) -> bytes:
     """Returns a name in the form of a line, from which its bytes follow. Before 2.1 a character that controls the
     terminal was shown as `?`, so a question mark is not shown as itself: its line of then would count as an answer."""
-    return b"".join(map(_shown, name.decode("utf-8", "surrogateescape")))
-
-
-def _shown(character: str) -> bytes:
-    """Returns a character of a name, or its bytes as numbers."""
-    data = character.encode("utf-8", "surrogateescape")
-    is_plain = character.isprintable() and character not in "\\?"
-    return data if is_plain else b"".join(b"\\x%02x" % it for it in data)
+    found = bytearray()
+    for character in name.decode("utf-8", "surrogateescape"):
+        data = character.encode("utf-8", "surrogateescape")
+        is_plain = character.isprintable() and character not in "\\?"
+        found += data if is_plain else b"".join(b"\\x%02x" % it for it in data)
+    return bytes(found)
 
 
 def answer(name: bytes) -> bytes:
@@ -88,7 +87,7 @@ def _checked(name: bytes) -> bytes:
         return line(REJECTED, "0 fault 25 at 0", name)
     except Full:
         return line(REJECTED, f"0 fault 8 at {LENGTH_MAX}", name)
-    checks = image_check(data) or [_whole(data)]
+    checks = image_check(data) or [VolumeCheck(0, len(data), *_judged(data))]
     found = [_verdict(data, it) for it in checks[:MOST_VOLUMES]]
     for it in checks[MOST_VOLUMES : MOST_VOLUMES + 1]:
         found.append((REJECTED, f"{it.offset} not checked: more than {MOST_VOLUMES} volumes"))
@@ -108,12 +107,12 @@ def _opened(name: bytes) -> int:
     return file
 
 
-def _whole(data: bytes) -> VolumeCheck:
-    """Returns the check of an image in which no volume was found."""
+def _judged(volume: bytes | memoryview, with_marks: bool = True) -> tuple[Fault | None, bool]:
+    """Returns the fault of a volume, and whether it is canonical, with or without the marks of fixed files."""
     try:
-        return VolumeCheck(0, len(data), None, volume_is_canonical(data))
+        return None, volume_is_canonical(volume if with_marks else unmarked(volume))
     except FaultError as error:
-        return VolumeCheck(0, len(data), error.fault, False)
+        return error.fault, False
 
 
 def _verdict(data: bytes, check: VolumeCheck) -> tuple[int, str]:
@@ -121,20 +120,12 @@ def _verdict(data: bytes, check: VolumeCheck) -> tuple[int, str]:
     at, fault, is_canonical, marks = check.offset, check.fault, check.canonical, ""
     place = fault.offset - at if fault else 0
     if fault and fault.code == FaultCode.FIXED:
-        fault, is_canonical, marks = *_without_marks(memoryview(data)[at : at + check.length]), " without marks"
+        fault, is_canonical = _judged(memoryview(data)[at : at + check.length], False)
+        marks = " without marks"
         place = fault.offset if fault else 0
     if fault:
         return REJECTED, f"{at} fault {fault.number} at {place}"
     return (CANONICAL, f"{at} canonical{marks}") if is_canonical else (NOT_CANONICAL, f"{at} not canonical{marks}")
-
-
-def _without_marks(volume: memoryview) -> tuple[Fault | None, bool]:
-    """Checks a volume without the marks of fixed files, also of those in nested volumes: returns its fault, and whether
-    it is canonical."""
-    try:
-        return None, volume_is_canonical(unmarked(volume))
-    except FaultError as error:
-        return error.fault, False
 
 
 def threads(jobs: int) -> int:
@@ -159,9 +150,10 @@ def _chunk(names: list[bytes], jobs: int) -> list[bytes]:
 
     def work() -> None:
         """Checks images until none is left."""
-        with contextlib.suppress(IndexError):
-            while True:
-                _fill(found, left.popleft(), names)
+        while left:
+            with contextlib.suppress(IndexError, MemoryError):
+                number = left.popleft()
+                found[number] = _checked(names[number])
 
     runs: list[Future[None]] = []
     with ThreadPoolExecutor(jobs) as pool:
@@ -176,12 +168,6 @@ def _chunk(names: list[bytes], jobs: int) -> list[bytes]:
         with contextlib.suppress(MemoryError):
             run.result()
     return found
-
-
-def _fill(found: list[bytes], number: int, names: list[bytes]) -> None:
-    """Sets the line of an image, unless memory runs out."""
-    with contextlib.suppress(MemoryError):
-        found[number] = _checked(names[number])
 
 
 def open_answers(path: str) -> BinaryIO:
@@ -226,52 +212,39 @@ def names_in(path: str) -> list[bytes]:
     return [it for it in data.split(b"\n") if it]
 
 
-def parser() -> cli.Parser:
-    """Returns the arguments of the command."""
-    forms = "[--] IMAGE ..", "--from LIST"
-    start = f"{NAME} [--no-status] [--jobs N] [--to ANSWERS] "
-    made = cli.Parser(NAME, __doc__, "\n       ".join(f"{start}{it}" for it in forms))
-    made.add_argument("images", metavar="IMAGE", nargs="*", help="an image")
-    made.add_argument("--from", metavar="LIST", dest="list", help="a file with the name of an image in each line")
-    made.add_argument("--to", metavar="ANSWERS", dest="answers", help="the file to which the lines are added")
-    made.add_argument("--no-status", action="store_true", help="end with status 0 whatever the lines are")
-    made.add_argument(
-        "--jobs",
-        metavar="N",
-        type=int,
-        default=os.cpu_count(),
-        help="the threads; by default one for each processor, and at most one for each 128 MiB of memory",
-    )
-    return made
+ABOUT_JOBS = "the threads; by default one for each processor, and at most one for each 128 MiB of memory"
+parser = cli.of(
+    NAME,
+    __doc__,
+    cli.argument("images", metavar="IMAGE", nargs="*", help="an image"),
+    cli.argument("--from", metavar="LIST", dest="list", help="a file with the name of an image in each line"),
+    cli.argument("--to", metavar="ANSWERS", dest="answers", help="the file to which the lines are added"),
+    cli.flag("--no-status", "end with status 0 whatever the lines are"),
+    cli.argument("--jobs", metavar="N", type=int, default=os.cpu_count(), help=ABOUT_JOBS),
+    usages=[f"[--no-status] [--jobs N] [--to ANSWERS] {it}" for it in ("[--] IMAGE ..", "--from LIST")],
+)
 
 
 def _run(names: list[bytes], path: str | None, jobs: int) -> int:
     """Writes the lines of images to standard output or to a file, and returns the greatest of their statuses."""
-    status = CANONICAL
-    if not path:
-        for lines in answers(names, jobs):
-            sys.stdout.buffer.write(b"".join(lines))
-            sys.stdout.buffer.flush()  # so the lines of a chunk are one write, as far as a pipe takes them
-            status = max(status, *(int(it[:1]) for it in lines))
-        return status
-    with open_answers(path) as file:
-        before = answered(file)
+    with contextlib.ExitStack() as ending:
+        file = ending.enter_context(open_answers(path)) if path else sys.stdout.buffer
+        before = answered(file) if path else {}
         status = max((before.get(shown(it), CANONICAL) for it in names), default=CANONICAL)
         for lines in answers((it for it in names if shown(it) not in before), jobs):
             rest = memoryview(b"".join(lines))
             while rest:  # a full disk takes only a first part
                 rest = rest[file.write(rest) :]
+            file.flush()  # so the lines of a chunk are one write, as far as a pipe takes them
             status = max(status, *(int(it[:1]) for it in lines))
     return status
 
 
-@cli.command(NAME)
-def main(words: list[str]) -> int:
+@cli.command(parser)
+def main(given: argparse.Namespace) -> int:
     """Runs the command."""
-    given = parser().parse_args(words)
     if not given.images and given.list is None:
         parser().error("IMAGE or --from LIST is needed")
-    cli.limit_memory()
     names = [os.fsencode(it) for it in given.images] + (names_in(given.list) if given.list is not None else [])
     status = _run(names, given.answers, threads(given.jobs))
     return cli.DONE if given.no_status else status

@@ -1,8 +1,10 @@
 # SPDX-License-Identifier: BSD-2-Clause-Patent
 """Contains the parts that the commands of the package share: their arguments, their inputs, and their exit statuses.
 
-    @cli.command("fv-same")
-    def main(words: list[str]) -> int:
+    parser = cli.of("fv-text", __doc__, cli.IMAGE, cli.flag("--open", "list the contents of compressed sections too"))
+
+    @cli.command(parser)
+    def main(given: argparse.Namespace) -> int:
         ...
 
 | Status | Meaning |
@@ -28,7 +30,7 @@ import signal
 import sys
 import traceback
 from collections.abc import Callable, Iterator, Sequence
-from typing import IO, NoReturn, Protocol
+from typing import IO, Any, NoReturn, Protocol
 
 from . import __version__
 from .limits import Full, Limits
@@ -54,14 +56,34 @@ class Unread(Exception):
     """An input cannot be read. The text is its line, with a fault as `fvtool` writes it."""
 
 
+# An argument of a command: its names, and what argparse is told about it.
+Argument = tuple[tuple[str, ...], dict[str, Any]]
+
+
+def argument(*names: str, **about: Any) -> Argument:
+    """Returns an argument of a command, as `add_argument` of argparse takes it."""
+    return names, about
+
+
+def flag(name: str, about: str) -> Argument:
+    """Returns an option without a value."""
+    return argument(name, action="store_true", help=about)
+
+
+IMAGE = argument("image", metavar="IMAGE", help="a flash image or a firmware volume")
+
+
 class Parser(argparse.ArgumentParser):
     """The arguments of a command, with --help and --version. If they are wrong, it writes the usage and ends with
-    status 3."""
+    status 3. `usages` are the forms of the command after its name."""
 
-    def __init__(self, name: str, about: str | None, usage: str | None = None) -> None:
+    def __init__(self, name: str, about: str | None, *arguments: Argument, usages: Sequence[str] = ()) -> None:
         shape = argparse.RawDescriptionHelpFormatter
+        usage = "\n       ".join(f"{name} {it}" for it in usages) or None
         super().__init__(prog=name, description=about, usage=usage, formatter_class=shape, allow_abbrev=False)
         self.add_argument("--version", action="version", version=f"{name} (Capstanolive) {__version__}")
+        for names, rest in arguments:
+            self.add_argument(*names, **rest)
 
     def print_help(self, file: IO[str] | None = None) -> None:
         """Writes the help. The method of argparse ignores an output that cannot be written."""
@@ -82,14 +104,29 @@ def with_name_last(words: list[str]) -> list[str]:
     return [*words[:-1], "--", words[-1]]
 
 
-def command(name: str) -> Callable[[Callable[[list[str]], int]], Main]:
-    """Makes a command from a function that takes the arguments after its name and returns a status. The function is the
-    last of its module: if that is run as a script (`python3 -m fv.same`), the command is run."""
+def of(name: str, about: str | None, *arguments: Argument, usages: Sequence[str] = ()) -> Callable[[], Parser]:
+    """Returns a function that makes the parser of a command."""
+    return functools.partial(Parser, name, about, *arguments, usages=usages)
 
-    def made(run: Callable[[list[str]], int]) -> Main:
+
+def command(
+    parser: Callable[[], Parser], ordered: Callable[[list[str]], list[str]] = list
+) -> Callable[[Callable[[argparse.Namespace], int]], Main]:
+    """Makes a command from a function that takes its arguments and returns a status, and limits the memory of the
+    process. `ordered` returns the words after the command's name as its parser takes them. The function is the last of
+    its module: if that is run as a script (`python3 -m fv.same`), the command is run."""
+
+    def made(run: Callable[[argparse.Namespace], int]) -> Main:
         @functools.wraps(run)
         def main(words: Sequence[str] | None = None) -> int:
-            return ended(name, functools.partial(run, list(sys.argv[1:] if words is None else words)))
+            def limited() -> int:
+                """Runs the command with its arguments."""
+                given = reader.parse_args(ordered(list(sys.argv[1:] if words is None else words)))
+                limit_memory()
+                return run(given)
+
+            reader = parser()
+            return ended(reader.prog, limited)
 
         if run.__module__ == "__main__":
             sys.exit(main())
@@ -99,44 +136,32 @@ def command(name: str) -> Callable[[Callable[[list[str]], int]], Main]:
 
 
 def ended(name: str, run: Callable[[], int]) -> int:
-    """Runs a command, and returns its status. All output is written by then. An input that cannot be read, or exceeds a
-    limit, gives status 2."""
+    """Runs a command, and returns its status, also if the command was asked for help, or a signal has ended it. All
+    output is written by then. An input that cannot be read, or exceeds a limit, gives status 2."""
     try:
         prepare_output()
-        status = _status(run)
+        try:
+            status = run()
+        except SystemExit as end:
+            status = end.code if isinstance(end.code, int) else DONE
         sys.stdout.flush()
+        return status
     except KeyboardInterrupt:
-        status = 128 + signal.SIGINT
-    except Unread as line:
-        status = REJECTED
-        complain(name, str(line))
-    except Full as what:
-        status = REJECTED
-        complain(name, f"more than {what}")
+        return 128 + signal.SIGINT
+    except (Unread, Full) as error:
+        complain(name, f"more than {error}" if isinstance(error, Full) else str(error))
+        return REJECTED
     except OSError as error:
-        status = FAILED
         complain(name, reason(error))
     except MemoryError as error:
-        status = FAILED
         complain(name, str(error) or "memory ran out")
     except ImportError as error:
-        status = FAILED
         complain(name, f"{error}. {HELP}")
     except Exception:  # an error of the command is not a verdict
-        status = FAILED
         with contextlib.suppress(OSError):
             traceback.print_exc()
-    if status == FAILED:
-        drop_output()
-    return status
-
-
-def _status(run: Callable[[], int]) -> int:
-    """Returns the status of a run, also of a run that was asked for help, or that a signal has ended."""
-    try:
-        return run()
-    except SystemExit as end:
-        return end.code if isinstance(end.code, int) else DONE
+    drop_output()
+    return FAILED
 
 
 def prepare_output() -> None:
@@ -225,12 +250,12 @@ def read_file(name: str | bytes | int, most: int) -> bytes:
     return b"".join(pieces)
 
 
-def read_for(command: str, name: str) -> bytes:
+def read_for(command: str, name: str, most: int = Limits.total) -> bytes:
     """Returns the bytes of an input of a command."""
-    return read(name, functools.partial(complain, command), Limits().total)
+    return read(name, functools.partial(complain, command), most)
 
 
-def read(name: str, say: Callable[[str], None], most: int) -> bytes:
+def read(name: str, say: Callable[[str], None], most: int = Limits.total) -> bytes:
     """Returns the bytes of an input. Raises Full if it has more than `most` bytes, and Unread if it cannot be read;
     `say` takes the reason."""
     try:

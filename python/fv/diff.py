@@ -13,13 +13,14 @@ written."""
 
 from __future__ import annotations
 
+import argparse
 import os
 from collections.abc import Iterator
 
 from . import cli
 from .same import NAME as SAME
 from .same import STATUS, compare_files, report_lines
-from .shown import printable
+from .shown import indented, printable
 
 NAME = "fv-diff"
 
@@ -35,37 +36,29 @@ def lines(path: str, old: str, new: str) -> Iterator[str]:
         yield f"fvtool: {shown}"
         remarks: list[str] = []
         report = compare_files((old, new), False, remarks.append)
-        yield from (f"  {SAME}: {printable(it)}" for it in remarks)
-        yield from (f"  {line}" for line in report_lines(report))
+        yield from indented([*(f"{SAME}: {printable(it)}" for it in remarks), *report_lines(report)])
 
 
-def compare(first: str, second: str) -> int:
-    """Compares two files that a user has named, as fv-same does, and returns the status of fv-same."""
-    report = compare_files((first, second), False, lambda what: cli.complain(NAME, what))
-    print(*report_lines(report), sep="\n")
-    return STATUS[report.verdict]
+parser = cli.of(
+    NAME,
+    __doc__,
+    cli.argument("path", metavar="PATH", help="the name of the file in the repository"),
+    cli.argument("rest", metavar="FILE", nargs="*", help="the versions, their hashes and their modes"),
+    usages=("PATH OLD-FILE OLD-HEX OLD-MODE NEW-FILE NEW-HEX NEW-MODE ..", "PATH", "A B"),
+)
 
 
-def parser() -> cli.Parser:
-    """Returns the arguments of the command."""
-    usage = f"{NAME} PATH OLD-FILE OLD-HEX OLD-MODE NEW-FILE NEW-HEX NEW-MODE ..\n       {NAME} PATH\n       {NAME} A B"
-    made = cli.Parser(NAME, __doc__, usage)
-    made.add_argument("path", metavar="PATH", help="the name of the file in the repository")
-    made.add_argument("rest", metavar="FILE", nargs="*", help="the versions, their hashes and their modes")
-    return made
-
-
-@cli.command(NAME)
-def main(words: list[str]) -> int:
+# A path may begin with a hyphen.
+@cli.command(parser, lambda words: cli.with_name_last(words) if len(words) < 2 else ["--", *words])
+def main(given: argparse.Namespace) -> int:
     """Runs the command."""
-    # A path may begin with a hyphen.
-    given = parser().parse_args(cli.with_name_last(words) if len(words) < 2 else ["--", *words])
-    cli.limit_memory()
     match given.rest:
         case []:
             print(f"fvtool: {printable(given.path)} is not merged")
-        case [second]:
-            return compare(given.path, second)
+        case [second]:  # a user has named two files
+            report = compare_files((given.path, second), False, lambda what: cli.complain(NAME, what))
+            print(*report_lines(report), sep="\n")
+            return STATUS[report.verdict]
         case [old, _, _, new, _, _, *_]:
             print(*lines(given.path, old, new), sep="\n")
         case _:

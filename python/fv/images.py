@@ -14,10 +14,11 @@ from __future__ import annotations
 
 import contextlib
 import functools
+import struct
 import uuid
 from collections.abc import Generator, Iterable, Iterator, Sequence
-from dataclasses import dataclass, field
-from typing import TypeVar
+from dataclasses import dataclass, field, replace
+from typing import NamedTuple, TypeVar
 
 from . import names
 from ._calls import header_read, volume_cells, volume_tree, volume_unfix
@@ -28,10 +29,9 @@ from ._types import Cell, Node
 from .limits import Budget, Full, Limits
 from .opened import OUT_OF_MEMORY, PACKED, Closed, Way, are_sections, frames, is_erased, open_section
 
-# In the header of a volume: GUID of the file system, FvLength (its upper half is 0), the signature, HeaderLength.
-SYSTEM_AT, LENGTH_AT, SIGNATURE_AT, HEADER_LENGTH_AT, EXTENDED_OFFSET_AT, REVISION_AT = 16, 32, 40, 48, 52, 55
-SIGNATURE, BEFORE_SIGNATURE = b"\0\0\0\0_FVH", 4  # with the upper half of FvLength
-SHORTEST_HEADER, REVISION = 56, 2  # bytes of the header of a volume, and its revision
+HEADER = struct.Struct("<16x16sQ4x4xHxxHxB")  # of a volume, before its block map: the fields of Head
+SIGNATURE, SIGNATURE_AT = b"\0\0\0\0_FVH", 36  # with the upper half of FvLength, which is 0
+REVISION = 2  # of the header of a volume
 EXTENDED_LENGTH_AT = 16  # in the extended header
 FILE_TYPE_AT, PAD_HEADER = 18, 24  # in the header of a file, and the bytes of the header of a pad file
 ENOUGH_SECTIONS = 1000  # with which bytes begin that are taken for sections
@@ -39,6 +39,7 @@ VOLUME_PARTS = 4  # parts that a volume counts for, because its header and its c
 HEAD = 64  # bytes that show what lies outside of volumes
 FIXED, ATTRIBUTES_AT = 0x04, 19  # the attribute of a file that may not be moved; where a file header has the attributes
 SYSTEMS = {2: "FFS2", 3: "FFS3"}
+OUTSIDE = "it is in no volume"  # why bytes are not read if no other reason is known
 LONGEST_TEXT = 200  # characters of a text that are read
 REMAINS = {
     CellKind.FILE: ("superseded file", "another file took its place"),
@@ -62,9 +63,19 @@ class Part:
     length: int
 
     @property
+    def end(self) -> int:
+        """Returns where the bytes of the part end."""
+        return self.offset + self.length
+
+    @property
     def body(self) -> bytes:
         """Returns the bytes of the part."""
-        return self.data[self.offset : self.offset + self.length]
+        return self.data[self.offset : self.end]
+
+    @property
+    def view(self) -> memoryview:
+        """Returns the bytes of the part without copying them."""
+        return memoryview(self.data)[self.offset : self.end]
 
 
 @dataclass
@@ -105,6 +116,11 @@ class Volume(Part):
     def fixed(self) -> list[File]:
         """Returns the files that are marked fixed. Superseded files are not among them."""
         return [it for it in self.files if it.is_fixed]
+
+    @property
+    def stored(self) -> list[Volume]:
+        """Returns the volumes in the sections of its files. Volumes in opened sections are not among them."""
+        return [it for file in self.files for it in volumes_in(file.sections)]
 
     @property
     def type_name(self) -> str:
@@ -191,9 +207,8 @@ class Content:
     @property
     def others(self) -> list[Part]:
         """Returns the bytes that are in no section and in no volume."""
-        starts = [self.end, *(it.offset + it.length for it in self.volumes)]
-        ends = [*(it.offset for it in self.volumes), len(self.data)]
-        return [Part(self.data, at, end - at) for at, end in zip(starts, ends) if at < end]
+        places = between(self.end, places_of(self.volumes), len(self.data))
+        return [Part(self.data, at, end - at) for at, end in places if at < end]
 
     def every_volume(self) -> list[Volume]:
         """Returns the volumes in the sections, and then the volumes after the sections."""
@@ -207,6 +222,19 @@ class Opened(Content):
 
     way: Way
     doubts: list[str]
+
+
+def places_of(parts: Iterable[Part]) -> Iterator[tuple[int, int]]:
+    """Yields where parts begin and end."""
+    return ((it.offset, it.end) for it in parts)
+
+
+def between(start: int, places: Iterable[tuple[int, int]], end: int) -> Iterator[tuple[int, int]]:
+    """Yields where the bytes before, between and after some places begin and end."""
+    for first, after in places:
+        yield start, first
+        start = after
+    yield start, end
 
 
 def leaves(sections: Iterable[Section]) -> Iterator[Section]:
@@ -235,9 +263,7 @@ def volumes_in(sections: Iterable[Section]) -> Iterator[Volume]:
 def _places_read_apart(sections: Iterable[Section]) -> Iterator[tuple[int, int]]:
     """Yields where the bodies of the sections begin and end in which no header of a volume is looked for: they are read
     as a volume, may be opened, or are code. (Drivers of variables have the header of a store that they make.)"""
-    for it in leaves(sections):
-        if it.volume or it.is_packed or it.kind in names.CODE:
-            yield it.offset, it.offset + it.length
+    return places_of(it for it in leaves(sections) if it.volume or it.is_packed or it.kind in names.CODE)
 
 
 def first_text(sections: Iterable[Section], kind: int) -> str:
@@ -247,34 +273,28 @@ def first_text(sections: Iterable[Section], kind: int) -> str:
 
 def files_in(content: Content) -> Iterator[tuple[Volume, File]]:
     """Yields the files at every level with their volumes, each file before the files inside it."""
-    yield from _files_under(content.sections)
-    for volume in content.volumes:
-        yield from _files_of(volume)
+    return _files(content.sections, content.volumes, True)
 
 
 def stored_files(volume: Volume) -> Iterator[File]:
     """Yields the files of a volume and of its nested volumes in the order of their rows in the tree. Files in opened
     sections are not among them."""
-    for file in volume.files:
-        yield file
-        for inner in volumes_in(file.sections):
-            yield from stored_files(inner)
+    return (file for _, file in _files([], [volume], False))
 
 
-def _files_of(volume: Volume) -> Iterator[tuple[Volume, File]]:
-    """Yields the files of a volume, each before the files inside it."""
-    for file in volume.files:
-        yield volume, file
-        yield from _files_under(file.sections)
-
-
-def _files_under(sections: Iterable[Section]) -> Iterator[tuple[Volume, File]]:
-    """Yields the files inside sections."""
+def _files(
+    sections: Iterable[Section], volumes: Iterable[Volume], with_opened: bool
+) -> Iterator[tuple[Volume, File]]:
+    """Yields the files inside sections, and then those of volumes, each before the files inside it."""
     for section in leaves(sections):
         if section.volume:
-            yield from _files_of(section.volume)
-        elif section.opened:
+            yield from _files([], [section.volume], with_opened)
+        elif section.opened and with_opened:
             yield from files_in(section.opened)
+    for volume in volumes:
+        for file in volume.files:
+            yield volume, file
+            yield from _files(file.sections, [], with_opened)
 
 
 def read(data: Buffer, limits: Limits = Limits()) -> Content:
@@ -283,8 +303,24 @@ def read(data: Buffer, limits: Limits = Limits()) -> Content:
     copied."""
     reader = Reader(data if isinstance(data, bytes) else bytes(data), limits)
     image = reader.image()
-    reader.open_volumes(image.volumes, 0)
+    reader.open_contents([], image.volumes, 0)
     return image
+
+
+class Head(NamedTuple):
+    """The fields of the header of a volume: the GUID of its file system as stored, FvLength, HeaderLength,
+    ExtHeaderOffset and Revision."""
+
+    system: bytes
+    length: int
+    header_length: int
+    extended: int
+    revision: int
+
+    @classmethod
+    def of(cls, data: bytes, at: int) -> Head:
+        """Returns the fields of the header at a place of some data."""
+        return cls(*HEADER.unpack_from(data, at))
 
 
 class Reader:
@@ -298,16 +334,25 @@ class Reader:
         """Returns the volumes of the image, with all parts inside them. No section is opened."""
         return self._with_unread(Content(self._data, [], self._volumes(self._data, 0), 0, []))
 
-    def open_volumes(self, volumes: Iterable[Volume], depth: int) -> None:
-        """Opens all sections in volumes, at every level. `depth` is the number of opened sections around them."""
+    def open_contents(self, sections: Iterable[Section], volumes: Iterable[Volume], depth: int) -> None:
+        """Opens sections, then the sections in the volumes that they hold, and then those in further volumes, at every
+        level. `depth` is the number of opened sections around them."""
+        found = list(leaves(sections))
+        self.open_all(found, depth)
+        for section in found:
+            if section.volume:
+                self.open_contents([], [section.volume], depth)
+            elif section.opened:
+                self.open_contents(section.opened.sections, section.opened.volumes, depth + 1)
         for volume in volumes:
             cores = [it for it in volume.files if it.kind == names.SECURITY_CORE and not it.sections]
-            for file in cores:
-                file.sections = self._core_sections(file)
+            for file in cores:  # for libfv their data are bytes, since they need not be sections
+                inner, after = self._stream(file.data, file.offset, file.end, 0)
+                file.sections = inner if after == file.end else []
             if any(True for file in cores for _ in _places_read_apart(file.sections)):
                 self._add_unread(volume)  # these places of the cores are read now
             for file in volume.files:
-                self._open_under(file.sections, depth)
+                self.open_contents(file.sections, [], depth)
 
     def open_all(self, sections: Iterable[Section], depth: int) -> None:
         """Opens sections, and the sections inside them. Sections in volumes are not opened."""
@@ -330,23 +375,6 @@ class Reader:
             section.closed = OUT_OF_MEMORY
         else:
             self.open_all(section.opened.sections, depth + 1)
-
-    def _core_sections(self, file: File) -> list[Section]:
-        """Returns the sections of a security core. For libfv its data are bytes, since they need not be sections."""
-        end = file.offset + file.length
-        sections, after = self._stream(file.data, file.offset, end, 0)
-        return sections if after == end else []
-
-    def _open_under(self, sections: Iterable[Section], depth: int) -> None:
-        """Opens sections, and then the sections in the volumes that they hold."""
-        found = list(leaves(sections))
-        self.open_all(found, depth)
-        for section in found:
-            if section.volume:
-                self.open_volumes([section.volume], depth)
-            elif section.opened:
-                self._open_under(section.opened.sections, depth + 1)
-                self.open_volumes(section.opened.volumes, depth + 1)
 
     def _opened(self, section: Section, depth: int) -> Opened:
         """Returns the contents of a section. Raises Closed or Full if it is not opened."""
@@ -378,51 +406,53 @@ class Reader:
         """Returns the volumes in some data, from an offset on. A volume may begin at any byte that is in no volume
         before it, and may have fixed files."""
         found: list[Volume] = []
-        at = start
-        while (begin := self._next_header(data, at, len(data))) is not None:
-            at = begin + 1
+        while (begin := self._next_header(data, start, len(data))) is not None:
+            start = begin + 1
             if not self._header_fault(data, begin, len(data)):
-                length = _number(data, begin + LENGTH_AT, 8)
-                found.append(self._volume(data, begin, length))
-                at = begin + length
+                found.append(self._volume(data, begin, Head.of(data, begin).length))
+                start = found[-1].end
         return found
 
     def _next_header(self, data: bytes, start: int, end: int) -> int | None:
         """Returns the first place between two offsets at which the header of a volume may begin: the signature, and
         lengths that may be right. The volume may be longer than the data."""
-        at, after = start + SIGNATURE_AT - BEFORE_SIGNATURE, end + SIGNATURE_AT + len(SIGNATURE) - BEFORE_SIGNATURE - 1
-        while (found := data.find(SIGNATURE, at, after)) >= 0:
-            self._budget.look()
-            begin, at = found + BEFORE_SIGNATURE - SIGNATURE_AT, found + 1
-            length = _number(data, begin + LENGTH_AT, 8)
-            header = _number(data, begin + HEADER_LENGTH_AT, 2)
-            if SHORTEST_HEADER <= header <= length and begin + SHORTEST_HEADER <= len(data):
-                return begin
+        after = end + SIGNATURE_AT + len(SIGNATURE) - 1
+        while (begin := data.find(SIGNATURE, start + SIGNATURE_AT, after) - SIGNATURE_AT) >= 0:
+            self._budget.take("signatures of volumes")
+            if begin + HEADER.size <= len(data):
+                head = Head.of(data, begin)
+                if HEADER.size <= head.header_length <= head.length:
+                    return begin
+            start = begin + 1
         return None
 
     def _header_fault(self, data: bytes, begin: int, end: int) -> Fault | None:
         """Returns the fault of a header, or None if it has none. Its block map may be long."""
-        self._budget.header(_number(data, begin + HEADER_LENGTH_AT, 2))
+        self._budget.take("headers of volumes")
+        self._budget.take("bytes of headers", Head.of(data, begin).header_length)
         try:
             header_read(memoryview(data)[begin:end])
         except FaultError as error:
-            return _moved(error.fault, begin)
+            return replace(error.fault, offset=begin + error.fault.offset)
         return None
 
     def _with_unread(self, content: Found) -> Found:
         """Adds the gaps that are not erased, and the headers of volumes that are not read."""
-        gaps = [_gap(it) for it in content.others if not is_erased(it.data, it.offset, it.offset + it.length)]
-        volumes = ((it.offset, it.offset + it.length) for it in content.volumes)
-        places = [*_places_read_apart(content.sections), *volumes]
-        headers = self._headers_between(content.data, 0, places, len(content.data))
-        content.unread = sorted([*gaps, *headers], key=lambda it: it.offset)
+        gaps = [
+            Unread(it.data, it.offset, it.length, names.what_begins(it.view[:HEAD].tobytes()), OUTSIDE, is_gap=True)
+            for it in content.others
+            if not is_erased(it.data, it.offset, it.end)
+        ]
+        places = [*_places_read_apart(content.sections), *places_of(content.volumes)]
+        stretches = between(0, places, len(content.data))
+        content.unread = self._sorted(content.data, gaps, stretches)
         return content
 
-    def _headers_between(self, data: bytes, start: int, places: list[tuple[int, int]], end: int) -> Iterator[Unread]:
-        """Yields the headers of volumes that are not read between two offsets, but not at these places."""
-        starts, ends = [start, *(after for _, after in places)], [*(at for at, _ in places), end]
-        for at, before in zip(starts, ends):
-            yield from self._headers(data, at, before, "it is in bytes that are not read as volumes")
+    def _sorted(self, data: bytes, found: list[Unread], stretches: Iterable[tuple[int, int]]) -> list[Unread]:
+        """Returns bytes that are not read together with the headers of volumes in these stretches, in order."""
+        for at, end in stretches:
+            found += self._headers(data, at, end, "it is in bytes that are not read as volumes")
+        return sorted(found, key=lambda it: it.offset)
 
     def _headers(self, data: bytes, start: int, end: int, otherwise: str) -> Iterator[Unread]:
         """Yields the places at which the header of a volume may begin, with its fault, or with another reason why the
@@ -433,9 +463,11 @@ class Reader:
             after = self._next_header(data, begin + 1, end)  # the parts do not overlap, so their lengths add up to less
             fault = self._header_fault(data, begin, end)
             reason = f"{fault}: {fault.text}" if fault else otherwise
-            length = min(_number(data, begin + LENGTH_AT, 8), (end if after is None else after) - begin)
-            guid = uuid.UUID(bytes_le=data[begin + SYSTEM_AT : begin + LENGTH_AT])
-            yield Unread(data, begin, length, _what_volume(guid, data[begin + REVISION_AT]), reason, guid)
+            head = Head.of(data, begin)
+            length = min(head.length, (end if after is None else after) - begin)
+            guid = uuid.UUID(bytes_le=head.system)
+            what = "volume" if head.revision == REVISION else f"volume of revision {head.revision}"
+            yield Unread(data, begin, length, names.FILE_SYSTEMS.get(guid, what), reason, guid)
             begin = after
 
     def _volume(self, data: bytes, offset: int, length: int) -> Volume:
@@ -447,9 +479,9 @@ class Reader:
             self._budget.count(VOLUME_PARTS)
             # The codes before this one are the faults of headers.
             name = header_read(body).name if error.fault.code >= FaultCode.FILE_STATE else None
-            rejected = Volume(data, offset, length, name, fault=_moved(error.fault, offset))
-            inside = "it is in a volume that is rejected"
-            rejected.unread = list(self._headers(data, offset + 1, offset + length, inside))
+            fault = replace(error.fault, offset=offset + error.fault.offset)
+            rejected = Volume(data, offset, length, name, fault=fault)
+            rejected.unread = list(self._headers(data, offset + 1, rejected.end, "it is in a volume that is rejected"))
             return rejected
         self._budget.count(len(rows) - 1 + VOLUME_PARTS)
         parts: list[Part] = []
@@ -469,30 +501,11 @@ class Reader:
         cells = volume_cells(volume.plain)
         self._budget.count(len(cells) - len(volume.files))
         remains = list(_remains(volume, cells))
-        for inner in (it for file in volume.files for it in volumes_in(file.sections)):
+        for inner in volume.stored:
             if not inner.fault:
                 self._add_unread(inner)
-        places = [place for file in volume.files for place in _places_read_apart(file.sections)]
-        headers = self._headers_between(volume.data, volume.offset + 1, places, volume.offset + volume.length)
-        volume.unread = sorted([*remains, *headers], key=lambda it: it.offset)
-
-
-def _gap(part: Part) -> Unread:
-    """Returns bytes that are in no volume and in no section, with what they are if that is known."""
-    what = names.what_begins(part.data[part.offset : part.offset + HEAD])
-    return Unread(part.data, part.offset, part.length, what, "it is in no volume", is_gap=True)
-
-
-def _moved(fault: Fault, start: int) -> Fault:
-    """Returns a fault with the offset in the data in which its volume begins at `start`."""
-    return Fault(fault.code, start + fault.offset, fault.depth, fault.input)
-
-
-def _what_volume(system: uuid.UUID, revision: int) -> str:
-    """Returns what a volume is that is not read, by the GUID of its file system and the revision of its header."""
-    if system in names.FILE_SYSTEMS:
-        return names.FILE_SYSTEMS[system]
-    return "volume" if revision == REVISION else f"volume of revision {revision}"
+        places = (place for file in volume.files for place in _places_read_apart(file.sections))
+        volume.unread = self._sorted(volume.data, remains, between(volume.offset + 1, places, volume.end))
 
 
 def _remains(volume: Volume, cells: Sequence[Cell]) -> Iterator[Unread]:
@@ -500,7 +513,7 @@ def _remains(volume: Volume, cells: Sequence[Cell]) -> Iterator[Unread]:
     unknown types if the data are sections."""
     data, start = volume.data, volume.offset
     for file in (it for it in volume.files if not it.sections and it.kind not in names.FILES):
-        if are_sections(data, file.offset, file.offset + file.length, ENOUGH_SECTIONS):
+        if are_sections(data, file.offset, file.end, ENOUGH_SECTIONS):
             reason = f"sections in a file of the unknown {file.type_name}"
             yield Unread(data, file.offset, file.length, "sections", reason, file.guid)
     valid = {it.offset - it.header_length - start for it in volume.files}
@@ -518,28 +531,23 @@ def _remains(volume: Volume, cells: Sequence[Cell]) -> Iterator[Unread]:
                 yield Unread(data, at, end - at, what, f"{reason}: {known}" if known else reason)
         elif what and cell.offset not in valid:
             yield Unread(data, at, end - at, what, reason, uuid.UUID(bytes_le=data[at : at + 16]))
-    if not is_erased(data, after, start + volume.length):
-        yield Unread(data, after, start + volume.length - after, "filler", "bytes after the last file")
+    if not is_erased(data, after, volume.end):
+        yield Unread(data, after, volume.end - after, "filler", "bytes after the last file")
 
 
 def _around_extended_header(volume: Volume) -> Generator[Unread, None, int]:
     """Yields the bytes before the extended header of a volume if they hold more than the header of a pad file. Returns
     where its header ends."""
-    data, start = volume.data, volume.offset
-    length, at = (_number(data, start + it, 2) for it in (HEADER_LENGTH_AT, EXTENDED_OFFSET_AT))
-    if not at:
-        return start + length
-    first, end = start + length, start + at
+    data, head = volume.data, Head.of(volume.data, volume.offset)
+    first, end = volume.offset + head.header_length, volume.offset + head.extended
+    if not head.extended:
+        return first
     if end - first >= PAD_HEADER and data[first + FILE_TYPE_AT] == names.PAD_FILE:
         first += PAD_HEADER
     if not is_erased(data, first, end):
         yield Unread(data, first, end - first, "pad", "bytes before the extended header")
-    return end + _number(data, end + EXTENDED_LENGTH_AT, 4)
-
-
-def _number(data: bytes, at: int, size: int) -> int:
-    """Returns the number in some bytes at a place."""
-    return int.from_bytes(data[at : at + size], "little")
+    (length,) = struct.unpack_from("<I", data, end + EXTENDED_LENGTH_AT)
+    return end + int(length)
 
 
 def _tree_of(volume: memoryview) -> tuple[Sequence[Node], bool]:
@@ -580,7 +588,7 @@ def _note_marks(volume: Volume) -> None:
     """Notes for a volume, and for each volume inside it, that it was read without the marks of fixed files. (A mark may
     also be in a superseded file, which is not among the files of a volume.)"""
     volume.is_marked = True
-    for inner in (it for file in volume.files for it in volumes_in(file.sections)):
+    for inner in volume.stored:
         _note_marks(inner)
 
 

@@ -5,6 +5,7 @@ contents can hold further LZMA data."""
 from __future__ import annotations
 
 import contextlib
+from collections import Counter
 from collections.abc import Iterator
 from dataclasses import dataclass
 
@@ -41,82 +42,63 @@ class Full(Exception):
 
 
 class Budget:
-    """The rest of the limits for one image. A reader takes something before it uses it. Each method raises Full if
-    nothing is left."""
+    """The counts of the bytes and parts of one image that a reader has taken, each up to its limit. A reader takes
+    something before it uses it. Each method raises Full if not enough is left."""
 
     def __init__(self, limits: Limits, size: int) -> None:
         self.limits = limits
-        self._total = max(size, min(limits.total, size + limits.least + limits.times * size))
-        self._left = self._total
-        self._most_slow = self._slow = min(limits.slow, limits.slow_least + limits.slow_times * size)
-        self._wasted = limits.wasted
-        self._parts = self._tried = self._sections = self._signatures = self._headers = self._header_bytes = 0
+        self._most = {
+            "bytes": max(size, min(limits.total, size + limits.least + limits.times * size)),
+            "symbols of slow compression": min(limits.slow, limits.slow_least + limits.slow_times * size),
+            "sections": limits.sections,
+            "parts": limits.parts,
+            "headers of volumes": limits.headers,
+            "bytes of headers": limits.header_bytes,
+            "signatures of volumes": limits.signatures,
+        }
+        self._taken: Counter[str] = Counter()
+        self._tried = 0
+        self.wasted = 0  # bytes that were unpacked or read, but are not kept
         if size > limits.total:
             raise Full(f"{limits.total} bytes")
-        self.keep(size)
+        self.take("bytes", size)
 
-    def check(self, count: int) -> None:
-        """Checks that this many bytes may be kept."""
-        if count > self._left:
-            raise Full(f"{self._total} bytes")
+    def check(self, what: str, count: int = 1) -> None:
+        """Checks that this many more may be taken."""
+        if self._taken[what] + count > self._most[what]:
+            raise Full(f"{self._most[what]} {what}")
 
-    def keep(self, count: int) -> None:
-        """Takes bytes of the image, or of the contents of a section."""
-        self.check(count)
-        self._left -= count
-
-    def waste(self, count: int) -> None:
-        """Takes bytes that were unpacked or read, but are not kept. The next section is not opened if no bytes are
-        left."""
-        self._wasted -= count
-
-    def header(self, count: int) -> None:
-        """Takes a header of this many bytes, which is looked at where a volume may begin."""
-        self._headers += 1
-        if self._headers > self.limits.headers:
-            raise Full(f"{self.limits.headers} headers of volumes")
-        self._header_bytes += count
-        if self._header_bytes > self.limits.header_bytes:
-            raise Full(f"{self.limits.header_bytes} bytes of headers")
+    def take(self, what: str, count: int = 1) -> None:
+        """Takes this many. If they are too many, nothing is left."""
+        self._taken[what] += count
+        self.check(what, 0)
 
     def work(self, count: int) -> None:
-        """Takes symbols that Python itself unpacks."""
-        if count > self._slow:
-            raise Full(f"{self._most_slow} symbols of slow compression")
-        self._slow -= count
-
-    def look(self) -> None:
-        """Takes a place at which a volume may begin."""
-        self._signatures += 1
-        if self._signatures > self.limits.signatures:
-            raise Full(f"{self.limits.signatures} signatures of volumes")
+        """Takes symbols that Python itself unpacks. If they are too many, all are left."""
+        self.check("symbols of slow compression", count)
+        self.take("symbols of slow compression", count)
 
     def count(self, parts: int) -> None:
         """Takes parts."""
-        self._parts += parts
         self._tried += parts
-        if self._parts > self.limits.parts or self._tried > self.limits.tried:
+        self.take("parts", parts)
+        if self._tried > self.limits.tried:
             raise Full(f"{self.limits.parts} parts")
 
     @contextlib.contextmanager
     def attempt(self) -> Iterator[None]:
         """Gives back the parts that the block has taken, if a limit or a lack of memory ends the block. These parts
         still count as tried."""
-        parts = self._parts
+        parts = self._taken["parts"]
         try:
             yield
         except (Full, MemoryError):
-            self._parts = parts
+            self._taken["parts"] = parts
             raise
-
-    def may_try(self) -> bool:
-        """Returns whether something may be read that may then not be kept."""
-        return self._wasted > 0 and self._tried <= self.limits.tried
 
     def open(self) -> None:
         """Takes a section that is opened."""
-        if self._sections == self.limits.sections:
-            raise Full(f"{self.limits.sections} sections")
-        if not self.may_try():
+        self.check("sections")
+        if self.wasted >= self.limits.wasted or self._tried > self.limits.tried:
             raise Full(f"{self.limits.wasted} bytes that are not kept")
-        self._sections += 1
+        self.take("sections")

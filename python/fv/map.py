@@ -19,23 +19,19 @@ be used."""
 
 from __future__ import annotations
 
+import argparse
 import sys
 from collections.abc import Iterator
 from pathlib import Path
 
 from . import cli, images
-from ._page import MOST_VOLUMES, page_of
-from ._sheet import Changes, Drawing, bytes_in, changes, drawing_of
+from ._page import MOST_VOLUMES, draw
+from ._sheet import Drawing, drawing_of
 from .limits import Full
 from .names import EDK2, Names
 from .shown import printable
 
 NAME = "fv-map"
-
-
-def draw(image: Drawing, against: Drawing | None) -> str:
-    """Returns the page of an image, which shows what changed since another image if there is one."""
-    return page_of(image, against, changes(against, image) if against else Changes())
 
 
 def drawing(path: str, names: Names) -> Drawing:
@@ -52,28 +48,25 @@ def complaints(image: Drawing) -> Iterator[str]:
     if not image.sheets:
         yield f"{image.path} has no volume"
     if image.lacks:
-        yield f"{image.path}: not read: {len(image.lacks)} parts, {bytes_in(image.lacks)} bytes"
+        yield f"{image.path}: not read: {len(image.lacks)} parts, {image.lacking} bytes"
     if image.cuts:
         yield f"{image.path}: not all of it is shown"
 
 
-def parser() -> cli.Parser:
-    """Returns the arguments of the command."""
-    made = cli.Parser(NAME, __doc__)
-    made.add_argument("image", metavar="IMAGE", help="a flash image or a firmware volume")
-    made.add_argument("--against", metavar="OLD", help="an image to compare with")
-    made.add_argument(
-        "--names", metavar="FILE", type=Path, action="append", default=[], help="more names: lines of a GUID and a name"
-    )
-    return made
+ABOUT_NAMES = "more names: lines of a GUID and a name"
+parser = cli.of(
+    NAME,
+    __doc__,
+    cli.IMAGE,
+    cli.argument("--against", metavar="OLD", help="an image to compare with"),
+    cli.argument("--names", metavar="FILE", type=Path, action="append", default=[], help=ABOUT_NAMES),
+)
 
 
-@cli.command(NAME)
-def main(words: list[str]) -> int:
+@cli.command(parser)
+def main(given: argparse.Namespace) -> int:
     """Runs the command."""
-    given = parser().parse_args(words)
     cli.refuse_terminal(NAME, "a page")
-    cli.limit_memory()
     names = Names([EDK2, *given.names])
     image = drawing(given.image, names)
     against = drawing(given.against, names) if given.against else None

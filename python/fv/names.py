@@ -8,39 +8,26 @@ import functools
 import re
 import struct
 import uuid
-from collections.abc import Iterable, Iterator
+from collections.abc import Iterable
 from pathlib import Path
 
-# Types of files, from 0x01 on.
-RAW_FILE, SECURITY_CORE, PAD_FILE = 0x01, 0x03, 0xF0
-FILE_NAMES = """raw, freeform, SEC core, PEI core, DXE core, PEI module, DXE driver, PEI module and DXE driver, application,
-MM driver, volume image, MM and DXE driver, MM core, standalone MM driver, standalone MM core"""
-FILES = dict(enumerate(re.split(r",\s", FILE_NAMES), 0x01))
+from ._native import FileType, SectionType
+
+# Types of files. A pad, the last type, has no name.
+RAW_FILE, SECURITY_CORE, PAD_FILE = FileType.RAW, FileType.SECURITY_CORE, FileType.FFS_PAD
+FILE_NAMES = """raw, freeform, SEC core, PEI core, DXE core, PEI module, DXE driver, PEI module and DXE driver,
+application, MM driver, volume image, MM and DXE driver, MM core, standalone MM driver, standalone MM core"""
+FILES: dict[int, str] = dict(zip(FileType, re.split(r",\s", FILE_NAMES)))
 
 # Types of sections.
-COMPRESSION, GUIDED, GROUP = 0x01, 0x02, 0x03
-PE32, TE, VERSION, UI, VOLUME, SUBTYPE = 0x10, 0x12, 0x14, 0x15, 0x17, 0x18
-PIC = 0x11
-CODE = (PE32, PIC, TE)
-DXE_DEPEX, PEI_DEPEX, MM_DEPEX = 0x13, 0x1B, 0x1C
-DEPEX = (DXE_DEPEX, PEI_DEPEX, MM_DEPEX)
-SECTIONS = {
-    COMPRESSION: "compressed",
-    GUIDED: "GUID-defined",
-    GROUP: "group",
-    PE32: "PE32",
-    PIC: "PIC",
-    TE: "TE",
-    DXE_DEPEX: "DXE depex",
-    VERSION: "version",
-    UI: "UI",
-    0x16: "16-bit",
-    VOLUME: "volume",
-    SUBTYPE: "freeform GUID",
-    0x19: "raw",
-    PEI_DEPEX: "PEI depex",
-    MM_DEPEX: "MM depex",
-}
+COMPRESSION, GUIDED, GROUP = SectionType.COMPRESSION, SectionType.GUID_DEFINED, SectionType.DISPOSABLE
+PE32, TE, VERSION, UI = SectionType.PE32, SectionType.TE, SectionType.VERSION, SectionType.USER_INTERFACE
+VOLUME, SUBTYPE = SectionType.FIRMWARE_VOLUME_IMAGE, SectionType.FREEFORM_SUBTYPE_GUID
+CODE = (PE32, SectionType.PIC, TE)
+DEPEX = (SectionType.DXE_DEPEX, SectionType.PEI_DEPEX, SectionType.MM_DEPEX)
+SECTION_NAMES = """compressed, GUID-defined, group, PE32, PIC, TE, DXE depex, version, UI, 16-bit, volume,
+freeform GUID, raw, PEI depex, MM depex"""
+SECTIONS: dict[int, str] = dict(zip(SectionType, re.split(r",\s", SECTION_NAMES)))
 
 # The ops of dependency expressions, by their codes. The first three have a GUID.
 OPS = ("BEFORE", "AFTER", "PUSH", "AND", "OR", "NOT", "TRUE", "FALSE", "END", "SOR")
@@ -62,16 +49,11 @@ FILE_SYSTEMS = {
 # The GUIDs with which capsules begin: the specification's, Intel's, Lenovo's, Toshiba's and AMI's.
 CAPSULES = {
     uuid.UUID(it).bytes_le
-    for it in (
-        "3b6686bd-0d76-4030-b70e-b5519e2fc5a0",
-        "6dcbd5ed-e82d-4c44-bda1-7194199ad92a",
-        "539182b9-abb5-4391-b69a-e3a943f72fcc",
-        "e20bafd3-9914-4f4f-9537-3129e090eb3c",
-        "25b5fe76-8243-4a5c-a9bd-7ee3246198b5",
-        "3be07062-1d51-45d2-832b-f093257ed461",
-        "4a3ca68b-7723-48fb-803d-578cc1fec44d",
-        "14eebb90-890a-43db-aed1-5d3c4588a418",
-    )
+    for it in """
+        3b6686bd-0d76-4030-b70e-b5519e2fc5a0 6dcbd5ed-e82d-4c44-bda1-7194199ad92a 539182b9-abb5-4391-b69a-e3a943f72fcc
+        e20bafd3-9914-4f4f-9537-3129e090eb3c 25b5fe76-8243-4a5c-a9bd-7ee3246198b5 3be07062-1d51-45d2-832b-f093257ed461
+        4a3ca68b-7723-48fb-803d-578cc1fec44d 14eebb90-890a-43db-aed1-5d3c4588a418
+    """.split()
 }
 DESCRIPTOR, DESCRIPTOR_AT = b"\x5a\xa5\xf0\x0f", 16  # the signature of a flash descriptor, and its place
 INTERFACE_TABLE = b"_FIT_   "  # with which a firmware interface table begins
@@ -86,23 +68,18 @@ def type_name(kind: int, types: dict[int, str]) -> str:
     return types.get(kind, f"type {kind:02x}")
 
 
-def _entries(lines: Iterable[str]) -> Iterator[tuple[str, str]]:
-    """Yields the GUIDs and the names of lines. A line that begins with # is a comment."""
-    for line in lines:
-        guid, _, name = line.strip().partition(" ")
-        if name and not line.startswith("#"):
-            yield guid.lower(), name.strip()
-
-
 class Names:
     """The names of GUIDs in some files. Each file has lines of a GUID and a name. If two lines name one GUID, the later
-    line counts."""
+    line counts. A line that begins with # is a comment."""
 
     def __init__(self, files: Iterable[Path] = (EDK2,)) -> None:
         self._names: dict[str, str] = {}
         for file in files:
             with open(file, encoding="utf-8", errors="replace") as lines:
-                self._names.update(_entries(lines))
+                for line in lines:
+                    guid, _, name = line.strip().partition(" ")
+                    if name and not line.startswith("#"):
+                        self._names[guid.lower()] = name.strip()
         # An image may have one expression, or one GUID, in very many sections.
         self._depex = functools.lru_cache(1 << 10)(self._ops)
         self._guid = functools.lru_cache(1 << 14)(self._text)

@@ -30,9 +30,6 @@ BROTLI_HEADER = 16  # bytes before the stream: the length of the contents, and o
 BROTLI_STEP = 16  # bytes of a stream that are unpacked at a time: Python's brotli does not limit its output
 BROTLI_PIECE = 1 << 24  # bytes that this few bytes may hold
 
-
-ERASED = bytes(1 << 16), b"\xff" * (1 << 16)
-
 # The reasons why a section is not opened that lie in the machine, and not in the image.
 OUT_OF_MEMORY, NO_BROTLI = "memory ran out", "brotli is not installed"
 OF_MACHINE = (OUT_OF_MEMORY, NO_BROTLI)
@@ -72,11 +69,6 @@ class Way:
     unpack: Callable[[Packed, Budget], Iterator[bytes]]
 
 
-def from_stored(packed: Packed, _: Budget) -> Iterator[bytes]:
-    """Yields data that are not packed."""
-    yield packed.data
-
-
 def from_crc32(packed: Packed, _: Budget) -> Iterator[bytes]:
     """Yields the data of a CRC32 section, and compares their sum with the sum in the section."""
     stored = packed.header[CRC32_AT : CRC32_AT + 4]
@@ -98,7 +90,7 @@ def from_lzma(packed: Packed, budget: Budget) -> Iterator[bytes]:
             data = b""
         _note_rest(packed, decoder.unused_data)
     except lzma.LZMAError as error:
-        budget.waste(STEP)  # the decoder does not say how much of the last piece it had unpacked
+        budget.wasted += STEP  # the decoder does not say how much of the last piece it had unpacked
         raise Closed(f"LZMA: {error}") from error
 
 
@@ -145,7 +137,7 @@ def from_brotli(packed: Packed, budget: Budget) -> Iterator[bytes]:
                 _note_rest(packed, data[at + BROTLI_STEP :])
                 break
     except brotli.error as error:
-        budget.waste(BROTLI_PIECE)  # the decoder does not say how much of the last piece it had unpacked
+        budget.wasted += BROTLI_PIECE  # the decoder does not say how much of the last piece it had unpacked
         raise Closed(f"Brotli: {error}") from error
     if left or not decoder.is_finished():
         raise Closed("Brotli: the contents have another length than the header says")
@@ -161,7 +153,7 @@ def from_compression(packed: Packed, budget: Budget, widths: tuple[int, ...]) ->
         except _tiano.Damaged as error:
             reasons.append(str(error))
         else:
-            if is_stream(found[-1]):
+            if are_sections(found[-1], 0, len(found[-1]), len(found[-1])):
                 yield found[-1]
                 return
     if not found:
@@ -172,7 +164,10 @@ def from_compression(packed: Packed, budget: Budget, widths: tuple[int, ...]) ->
 _either = functools.partial(from_compression, widths=(_tiano.UEFI, _tiano.TIANO))
 _tiano_only = functools.partial(from_compression, widths=(_tiano.TIANO,))
 # The ways by the type of a compression section.
-COMPRESSIONS = {0: Way("stored", "stored", from_stored), 1: Way("UEFI compression", "uefi", _either)}
+COMPRESSIONS = {
+    0: Way("stored", "stored", lambda packed, _: iter([packed.data])),
+    1: Way("UEFI compression", "uefi", _either),
+}
 # The ways by the GUID of a GUID-defined section.
 GUIDS = {
     uuid.UUID("ee4e5898-3914-4259-9d6e-dc7bd79403cf"): Way("LZMA", "lzma", from_lzma),
@@ -197,11 +192,11 @@ def open_section(kind: int, header_length: int, body: bytes, budget: Budget) -> 
             found.write(piece)
             if found.tell() > budget.limits.section:
                 raise Closed(f"{way.name}: more than {budget.limits.section} bytes")
-            budget.check(found.tell())
+            budget.check("bytes", found.tell())
     except (Closed, Full, MemoryError):
-        budget.waste(found.tell())
+        budget.wasted += found.tell()
         raise
-    budget.keep(found.tell())
+    budget.take("bytes", found.tell())
     if kind == COMPRESSION and found.tell() != int.from_bytes(packed.header[:4], "little"):
         packed.doubts.append("the contents have another length than the header says")
     return way, found.getvalue(), packed.doubts
@@ -246,15 +241,13 @@ def frames(data: bytes, start: int, end: int) -> Iterator[Frame]:
 
 def is_erased(data: bytes, start: int, end: int) -> bool:
     """Returns whether all bytes at these places are 0x00, or all are 0xFF, or there are none."""
-    erased = next((it for it in ERASED if data.startswith(it[:1], start, end)), None)
-    if start >= end or erased is None:
-        return start >= end
-    return all(data.startswith(erased[: end - at], at, end) for at in range(start, end, len(erased)))
+    return start >= end or data[start : start + 1] in (b"\0", b"\xff") and is_uniform(data, start, end)
 
 
-def is_stream(data: bytes) -> bool:
-    """Returns whether some data are sections up to their end."""
-    return are_sections(data, 0, len(data), len(data))
+def is_uniform(data: bytes, start: int, end: int) -> bool:
+    """Returns whether all bytes at these places are equal."""
+    piece = data[start : start + 1] * min(end - start, 1 << 16)  # bytes.count would take ten times as long
+    return all(data.startswith(piece[: end - at], at, end) for at in range(start, end, 1 << 16))
 
 
 def are_sections(data: bytes, start: int, end: int, most: int) -> bool:

@@ -33,10 +33,11 @@ library libfv cannot be used, or the output cannot be written."""
 
 from __future__ import annotations
 
+import argparse
 import contextlib
 import hashlib
 import json
-from collections import Counter, deque
+from collections import Counter, defaultdict, deque
 from collections.abc import Callable, Iterable, Iterator, Sequence
 from dataclasses import asdict, dataclass, field
 from itertools import zip_longest
@@ -45,7 +46,8 @@ from typing import Any
 from . import cli
 from ._calls import volume_compare, volume_digest
 from ._errors import FaultError
-from .images import REMAINS, Content, File, Opened, Reader, Section, Unread, Volume, leaves, volumes_in
+from .images import REMAINS, Content, File, Opened, Reader, Section, Unread, Volume
+from .images import between, leaves, places_of, volumes_in
 from .limits import Full, Limits
 from .names import Names
 from .shown import indented, printable, quoted
@@ -173,8 +175,7 @@ class Comparison:
     def report(self, first: Content, second: Content) -> Report:
         """Returns the differences between the two images."""
         old, new = ({it.offset: it for it in image.volumes} for image in (first, second))
-        lengths = [{at: it.length for at, it in volumes.items()} for volumes in (old, new)]
-        report = Report(is_other_layout=lengths[0] != lengths[1])
+        report = Report(is_other_layout=[*places_of(first.volumes)] != [*places_of(second.volumes)])
         for at in sorted({*old, *new}):
             if at in old and at in new:
                 report.volumes.append(self._pair(old[at], new[at], 0))
@@ -303,14 +304,11 @@ def first_difference(one: bytes, two: bytes) -> int:
 def _moves(first: list[Volume], second: list[Volume]) -> list[Move]:
     """Returns the volumes of one image that mean the same as a volume at another place of the other image. Each volume
     is in one move."""
-    left: dict[Any, deque[Volume]] = {}
+    left: defaultdict[Any, deque[Volume]] = defaultdict(deque)
     for volume in second:
-        left.setdefault(_meaning(volume), deque()).append(volume)
-    moves = []
-    for volume in first:
-        if places := left.get(_meaning(volume)):
-            moves.append(Move(volume.offset, places.popleft().offset, volume.length))
-    return moves
+        left[_meaning(volume)].append(volume)
+    found = ((it, left[_meaning(it)]) for it in first)
+    return [Move(it.offset, places.popleft().offset, it.length) for it, places in found if places]
 
 
 def _meaning(volume: Volume) -> Any:
@@ -415,9 +413,7 @@ def _other_sections(old: list[Section], new: list[Section]) -> list[str]:
 def _other_bytes(first: Content, second: Content) -> int | None:
     """Returns the offset of the first byte outside of volumes that differs. The two images have volumes at the same
     places."""
-    starts = [0, *(it.offset + it.length for it in first.volumes)]
-    ends = [*(it.offset for it in first.volumes), max(len(first.data), len(second.data))]
-    for start, end in zip(starts, ends):
+    for start, end in between(0, places_of(first.volumes), max(len(first.data), len(second.data))):
         one, two = first.data[start:end], second.data[start:end]
         if one != two:
             return start + first_difference(one, two)
@@ -492,13 +488,10 @@ def _inside_lines(inside: Inside) -> Sequence[str]:
 
 def compare_files(names: Sequence[str], is_open: bool, say: Callable[[str], None]) -> Report:
     """Compares two files, and returns the report. `say` takes a remark about a file."""
-    def note(number: int) -> None:
-        """Says that an input has no volume."""
-        say(f"{printable(names[number])} has no volume, so its bytes are compared")
-
     try:
-        first, second = (cli.read(name, say, Limits().total) for name in names)
-        return compare_images(first, second, is_open, note=note)
+        first, second = (cli.read(name, say) for name in names)
+        note = "{} has no volume, so its bytes are compared".format
+        return compare_images(first, second, is_open, note=lambda number: say(note(printable(names[number]))))
     except cli.Unread as line:
         return Report(REJECTED, str(line))
     except Full as what:
@@ -507,21 +500,19 @@ def compare_files(names: Sequence[str], is_open: bool, say: Callable[[str], None
         return Report(REJECTED, "fault 24 at 0")
 
 
-def parser() -> cli.Parser:
-    """Returns the arguments of the command."""
-    made = cli.Parser(NAME, __doc__)
-    made.add_argument("first", metavar="A", help="a flash image or a firmware volume")
-    made.add_argument("second", metavar="B", help="another flash image or firmware volume")
-    made.add_argument("--open", action="store_true", help="open compressed sections where two files differ")
-    made.add_argument("--json", action="store_true", help="write a JSON object")
-    return made
+parser = cli.of(
+    NAME,
+    __doc__,
+    cli.argument("first", metavar="A", help="a flash image or a firmware volume"),
+    cli.argument("second", metavar="B", help="another flash image or firmware volume"),
+    cli.flag("--open", "open compressed sections where two files differ"),
+    cli.flag("--json", "write a JSON object"),
+)
 
 
-@cli.command(NAME)
-def main(words: list[str]) -> int:
+@cli.command(parser)
+def main(given: argparse.Namespace) -> int:
     """Runs the command."""
-    given = parser().parse_args(words)
-    cli.limit_memory()
     report = compare_files((given.first, given.second), given.open, lambda what: cli.complain(NAME, what))
     print(json.dumps(asdict(report), indent=2) if given.json else "\n".join(report_lines(report)))
     return STATUS[report.verdict]

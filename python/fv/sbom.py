@@ -21,11 +21,12 @@ ran out."""
 
 from __future__ import annotations
 
+import argparse
 import hashlib
 import json
 import os
 import uuid
-from collections.abc import Iterable
+from collections.abc import Iterable, Sequence
 from typing import Any
 
 from . import __version__, cli, images
@@ -37,6 +38,7 @@ from .shown import printable
 NAME = "fv-sbom"
 MOST_INDENTED = 10_000  # components of a bill that is written with indentation
 SPACE = uuid.UUID("5ba5b0f3-5f5a-4a53-9d1c-6f5f2b1c7d10")  # the name space of the serial numbers
+Property = tuple[str, str]  # a name and a value
 
 
 def bill(name: str, data: bytes, parts: Iterable[Entry]) -> dict[str, Any]:
@@ -63,10 +65,15 @@ def status_of(parts: Iterable[Entry]) -> int:
     return max([least, *(it.status for it in found)])
 
 
-def component(reference: str, name: str, sha256: str, kind: str = "firmware", **more: Any) -> dict[str, Any]:
-    """Returns a component."""
+def component(
+    reference: str, name: str, sha256: str, kind: str = "firmware", found: Sequence[Property] = (), version: str = ""
+) -> dict[str, Any]:
+    """Returns a component with the properties that were found."""
+    numbered = {"version": printable(version)} if version else {}
     hashes = [{"alg": "SHA-256", "content": sha256}]
-    return {"type": kind, "bom-ref": reference, "name": printable(name), **more, "hashes": hashes}
+    properties = [{"name": f"uefi:{name}", "value": value} for name, value in found]
+    made = {"type": kind, "bom-ref": reference, "name": printable(name), **numbered, "hashes": hashes}
+    return {**made, "properties": properties} if properties else made
 
 
 def of_file(entry: Entry, file: File) -> dict[str, Any]:
@@ -75,41 +82,27 @@ def of_file(entry: Entry, file: File) -> dict[str, Any]:
     for section in every_leaf(file.sections):
         if section.kind in (PE32, TE):
             found.append((f"{section.type_name}:sha256", entry.digests.of(section)))
-    version = {"version": printable(file.version)} if file.version else {}
-    made = component(entry.path, entry.name or str(file.guid), entry.digest, **version)
-    return {**made, "properties": _properties(found)}
+    return component(entry.path, entry.name or str(file.guid), entry.digest, "firmware", found, file.version)
 
 
 def of_unread(entry: Entry) -> dict[str, Any]:
     """Returns the component of a part that is not read, or of a section whose contents may be wrong."""
     guid = [("guid", str(entry.guid))] if entry.guid else []
     name = entry.name or entry.path.rstrip("/").rpartition("/")[2]
-    found = [*guid, *_place_of(entry), ("note", entry.note)]
-    return {**component(entry.path, name, entry.digest, "file"), "properties": _properties(found)}
+    return component(entry.path, name, entry.digest, "file", [*guid, *_place_of(entry), ("note", entry.note)])
 
 
-def _place_of(entry: Entry) -> list[tuple[str, str]]:
+def _place_of(entry: Entry) -> list[Property]:
     """Returns the type of a part and its place."""
     return [("type", entry.kind or entry.what), ("offset", f"0x{entry.part.offset:x}"), ("in", entry.within)]
 
 
-def _properties(found: Iterable[tuple[str, str]]) -> list[dict[str, str]]:
-    """Returns the properties of a component."""
-    return [{"name": f"uefi:{name}", "value": value} for name, value in found]
+parser = cli.of(NAME, __doc__, cli.IMAGE)
 
 
-def parser() -> cli.Parser:
-    """Returns the arguments of the command."""
-    made = cli.Parser(NAME, __doc__)
-    made.add_argument("image", metavar="IMAGE", help="a flash image or a firmware volume")
-    return made
-
-
-@cli.command(NAME)
-def main(words: list[str]) -> int:
+@cli.command(parser)
+def main(given: argparse.Namespace) -> int:
     """Runs the command."""
-    given = parser().parse_args(words)
-    cli.limit_memory()
     data = cli.read_for(NAME, given.image)
     parts = list(entries(images.read(data), Names()))
     made = bill(os.path.basename(given.image), data, parts)

@@ -42,6 +42,6 @@ def file_name(text: str) -> str:
     return re.sub(r"[^A-Za-z0-9._+-]+", "_", text)[:LONGEST_NAME]
 
 
-def indented(lines: Iterable[str], depth: int = 1) -> Iterator[str]:
-    """Yields lines two spaces further in, for each level of depth."""
-    return (f"{'  ' * depth}{line}" for line in lines)
+def indented(lines: Iterable[str]) -> Iterator[str]:
+    """Yields lines two spaces further in."""
+    return (f"  {line}" for line in lines)

@@ -15,6 +15,7 @@ need Python's module brotli. git stops at any status except 0, so nothing wrong 
 
 from __future__ import annotations
 
+import argparse
 import hashlib
 import struct
 import uuid
@@ -27,7 +28,7 @@ from ._calls import volume_tree, volume_tree_digests
 from ._errors import FaultError
 from ._native import NodeKind
 from ._types import Node
-from .images import LONGEST_TEXT, Content, File, Opened, Section, Volume, files_in, leaves, stored_files
+from .images import LONGEST_TEXT, Content, Opened, Section, Volume, files_in, leaves, stored_files
 from .limits import Full
 from .names import GROUP, SUBTYPE, UI, VERSION
 from .opened import OF_MACHINE
@@ -46,7 +47,7 @@ def lines(image: Content, is_open: bool) -> Iterator[str]:
             for section in leaves(file.sections):
                 if section.opened or section.closed:
                     yield f"in file {file.guid}:"
-                    yield from _packed(section, 1)
+                    yield from indented(_packed(section))
 
 
 def _sum(*data: bytes) -> str:
@@ -77,14 +78,9 @@ def _list(volume: Volume) -> Iterator[str]:
         yield f"{len(volume.fixed)} of {len(volume.files)} files fixed"
     files = stored_files(volume)
     for row, (node, digest) in enumerate(zip(nodes, digests)):
-        file = next(files) if node.kind == NodeKind.FILE else None
         ending = f" sha256 {digest.hex()}" if digest else ""
-        yield f"{'  ' * node.depth}{_line(node, counts[row], data)}{ending}{_fixed(file)}"
-
-
-def _fixed(file: File | None) -> str:
-    """Returns the end of the line of a fixed file."""
-    return " fixed" if file and file.is_fixed else ""
+        ending += " fixed" if node.kind == NodeKind.FILE and next(files).is_fixed else ""
+        yield f"{'  ' * node.depth}{_line(node, counts[row], data)}{ending}"
 
 
 def _line(node: Node, files: int, data: bytes) -> str:
@@ -117,41 +113,42 @@ def _detail(kind: int, body: bytes) -> str:
     return ""
 
 
-def _packed(section: Section, depth: int) -> Iterator[str]:
+def _packed(section: Section) -> Iterator[str]:
     """Yields the lines of a section that may be opened, and of its contents."""
     if section.opened:
-        yield from indented([f"{section.opened.way.name}:"], depth)
-        yield from _opened(section.opened, depth + 1)
+        yield f"{section.opened.way.name}:"
+        yield from indented(_opened(section.opened))
     elif section.closed in OF_MACHINE:  # another machine, or this one later, writes other lines
         raise OSError(f"a section is not opened: {section.closed}")
     else:
-        yield from indented([f"not opened: {section.closed}, {_sum(section.body)}"], depth)
+        yield f"not opened: {section.closed}, {_sum(section.body)}"
 
 
-def _opened(content: Opened, depth: int) -> Iterator[str]:
+def _opened(content: Opened) -> Iterator[str]:
     """Yields the lines of the contents of a section."""
-    yield from _sections(content.sections, depth)
+    yield from _sections(content.sections)
     for volume in content.volumes:
-        yield from indented(_volume(volume), depth)
+        yield from _volume(volume)
     if content.others:
-        yield from indented([f"other bytes {_sum(*(it.body for it in content.others))}"], depth)
+        yield f"other bytes {_sum(*(it.body for it in content.others))}"
 
 
-def _sections(sections: Iterable[Section], depth: int) -> Iterator[str]:
+def _sections(sections: Iterable[Section]) -> Iterator[str]:
     """Yields the lines of the sections in the contents of a section."""
     for section in sections:
-        line = _section_line(section.kind, section.header_length, section.body)
+        inner: Iterable[str] = []
+        ending = ""
         if section.volume:
-            yield from indented([line, *indented(_volume(section.volume), 1)], depth)
+            inner = _volume(section.volume)
         elif section.kind == GROUP:
-            rest = f" {_sum(section.body)}" if section.closed else ""  # some of its bytes are not in its sections
-            yield from indented([f"{line}{rest}"], depth)
-            yield from _sections(section.sections, depth + 1)
+            inner = _sections(section.sections)
+            ending = f" {_sum(section.body)}" if section.closed else ""  # some of its bytes are not in its sections
         elif section.is_packed:
-            yield from indented([line], depth)
-            yield from _packed(section, depth + 1)
+            inner = _packed(section)
         else:
-            yield from indented([f"{line} {_sum(section.body)}"], depth)
+            ending = f" {_sum(section.body)}"
+        yield _section_line(section.kind, section.header_length, section.body) + ending
+        yield from indented(inner)
 
 
 def shown(data: bytes, is_open: bool) -> Iterator[str]:
@@ -167,19 +164,12 @@ def shown(data: bytes, is_open: bool) -> Iterator[str]:
         yield f"no volume, {len(data)} bytes, {_sum(data)}"
 
 
-def parser() -> cli.Parser:
-    """Returns the arguments of the command."""
-    made = cli.Parser(NAME, __doc__)
-    made.add_argument("image", metavar="IMAGE", help="a flash image or a firmware volume")
-    made.add_argument("--open", action="store_true", help="list the contents of compressed sections too")
-    return made
+parser = cli.of(NAME, __doc__, cli.IMAGE, cli.flag("--open", "list the contents of compressed sections too"))
 
 
-@cli.command(NAME)
-def main(words: list[str]) -> int:
+@cli.command(parser, cli.with_name_last)
+def main(given: argparse.Namespace) -> int:
     """Runs the command."""
-    given = parser().parse_args(cli.with_name_last(words))
-    cli.limit_memory()
     for line in shown(cli.read_for(NAME, given.image), given.open):
         print(line)
     return cli.DONE

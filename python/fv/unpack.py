@@ -89,28 +89,24 @@ def write(found: Iterable[Entry], tree: Tree) -> None:
         tree.put(index, ("\t".join(COLUMNS) + "\n").encode())
         for entry in found:
             if entry.is_folder:
-                tree.make(entry.path)
+                tree.enter(entry.path)
             else:
-                part = entry.part
-                tree.write(entry.path, memoryview(part.data)[part.offset : part.offset + part.length])
+                with tree.file(entry.path) as file:
+                    tree.put(file, entry.part.view)
             tree.put(index, f"{index_row(entry)}\n".encode())
 
 
 def table(found: Iterable[Entry], with_digests: bool) -> Iterator[str]:
     """Yields lines for parts, with a heading."""
-    rows = [("offset", "size", "type", "path"), *map(_cells, found)]
-    digests = ["sha256", *(it.digest for it in found)] if with_digests else []
+    rows = [("offset", "size", "type", f"{'sha256':<64}  " if with_digests else "", "path")]
+    for it in found:
+        offset = f"{'' if it.within == IMAGE else '+'}0x{it.part.offset:x}"
+        path = f"{it.path}  {it.note}" if it.note else it.path
+        digest = f"{it.digest}  " if with_digests else ""
+        rows.append((offset, str(it.part.length), it.kind or it.what, digest, path))
     places, sizes, kinds = (max(len(row[it]) for row in rows) for it in range(3))
-    for number, (offset, size, kind, path) in enumerate(rows):
-        digest = f"{digests[number]:<64}  " if with_digests else ""
+    for offset, size, kind, digest, path in rows:
         yield f"{offset:>{places}}  {size:>{sizes}}  {kind:<{kinds}}  {digest}{path}"
-
-
-def _cells(entry: Entry) -> tuple[str, str, str, str]:
-    """Returns the columns of a part in the table."""
-    offset = f"{'' if entry.within == IMAGE else '+'}0x{entry.part.offset:x}"
-    path = f"{entry.path}  {entry.note}" if entry.note else entry.path
-    return offset, str(entry.part.length), entry.kind or entry.what, path
 
 
 def objects(found: Iterable[Entry], with_digests: bool) -> Iterator[str]:
@@ -152,19 +148,19 @@ def _file_of(entry: Entry) -> str:
     return f"{volume}/{file}/" if entry.what == "section" and inner else ""
 
 
-def parser() -> cli.Parser:
-    """Returns the arguments of the command."""
-    made = cli.Parser(NAME, __doc__, f"\n       {NAME} ".join(["", *USAGES]).strip())
-    made.add_argument("image", metavar="IMAGE", help="a flash image or a firmware volume")
-    made.add_argument("folder", metavar="FOLDER", nargs="?", help="a folder that is empty or does not exist, or FILE")
-    made.add_argument("--list", action="store_true", help="list the parts, and write no files")
-    made.add_argument("--sums", action="store_true", help="list their SHA-256 digests too")
-    made.add_argument("--json", action="store_true", help="list each part as a JSON object")
-    made.add_argument("--only", metavar="PART", help="write the bytes of one part to FILE, or to standard output")
-    made.add_argument(
-        "--most", metavar="N", type=cli.whole_number, default=Limits().total, help="the most bytes that are written"
-    )
-    return made
+ABOUT_MOST = "the most bytes that are written"
+parser = cli.of(
+    NAME,
+    __doc__,
+    cli.IMAGE,
+    cli.argument("folder", metavar="FOLDER", nargs="?", help="a folder that is empty or does not exist, or FILE"),
+    cli.flag("--list", "list the parts, and write no files"),
+    cli.flag("--sums", "list their SHA-256 digests too"),
+    cli.flag("--json", "list each part as a JSON object"),
+    cli.argument("--only", metavar="PART", help="write the bytes of one part to FILE, or to standard output"),
+    cli.argument("--most", metavar="N", type=cli.whole_number, default=Limits.total, help=ABOUT_MOST),
+    usages=USAGES,
+)
 
 
 def hindrance(given: argparse.Namespace) -> str:
@@ -185,7 +181,7 @@ def hindrance(given: argparse.Namespace) -> str:
 
 def run(given: argparse.Namespace) -> int:
     """Reads the image, writes what is asked for, and returns the status."""
-    data = cli.read(given.image, lambda what: cli.complain(NAME, what), given.most)
+    data = cli.read_for(NAME, given.image, given.most)
     image = images.read(data, Limits(total=given.most))
     found = list(entries(image, Names()))
     if given.only:
@@ -196,20 +192,15 @@ def run(given: argparse.Namespace) -> int:
         print(*lines, sep="\n", end="\n" if found else "")
         return cli.OTHER
     if given.folder:
-        check_files(found, len(data))
+        most = LEAST_FILES + len(data) // BYTES_OF_FILE
+        if sum(not it.is_folder for it in found) > most:
+            raise Full(f"{most} files")
         with filled_at_end(Path(os.path.realpath(given.folder)), given.most, INDEX) as tree:
             write(found, tree)
         print(*(it.line for it in found if it.line), sep="\n")
     else:
         print(*(objects if given.json else table)(found, given.sums), sep="\n")
     return max(it.status for it in found)
-
-
-def check_files(found: Iterable[Entry], size: int) -> None:
-    """Checks that an image of this many bytes has no more files than may be written. Raises Full if it has."""
-    most = LEAST_FILES + size // BYTES_OF_FILE
-    if sum(not it.is_folder for it in found) > most:
-        raise Full(f"{most} files")
 
 
 def write_only(found: Sequence[Entry], given: argparse.Namespace) -> int:
@@ -224,12 +215,10 @@ def write_only(found: Sequence[Entry], given: argparse.Namespace) -> int:
         if len(parts) > MOST_PATHS:
             cli.complain(NAME, f"and {len(parts) - MOST_PATHS} more")
         return cli.OTHER
-    part = parts[0].part
-    body = memoryview(part.data)[part.offset : part.offset + part.length]
     if given.folder:
-        write_new(given.folder, body)
+        write_new(given.folder, parts[0].part.view)
     else:
-        sys.stdout.buffer.write(body)
+        sys.stdout.buffer.write(parts[0].part.view)
     return cli.DONE
 
 
@@ -244,14 +233,12 @@ def write_new(name: str, data: memoryview) -> None:
             raise
 
 
-@cli.command(NAME)
-def main(words: list[str]) -> int:
+@cli.command(parser)
+def main(given: argparse.Namespace) -> int:
     """Runs the command."""
-    given = parser().parse_args(words)
     is_clear = given.list != bool(given.folder) if given.only is None else given.only != "" and not given.list
     if given.folder == "" or not is_clear or (not given.list and (given.sums or given.json)):
         parser().error("IMAGE and FOLDER are needed, or --list and IMAGE, or --only, PART and IMAGE")
-    cli.limit_memory()
     cli.end_by_signals()
     if reason := hindrance(given):
         cli.complain(NAME, reason)

@@ -9,6 +9,7 @@ Exit status 0: both found the same in each image. 1: otherwise. 3: the arguments
 
 from __future__ import annotations
 
+import argparse
 import re
 import resource
 import shutil
@@ -23,7 +24,6 @@ from fv import cli
 
 from tests.commands.room import rows_of
 
-NAME = "openers_beside"
 # A line of UEFIExtract's report.
 PART = re.compile(r" (File|Section) +\| (.{21}) \| .{8} \| (.{8}) \| .{8} \| -+ (\S+)")
 HEADERS = {"file": (24, 32), "section": (4, 8)}  # lengths of short and of long headers
@@ -63,13 +63,17 @@ def run(command: list[str], image: Path) -> tuple[Counter[Found], float, int]:
         return Counter(parts_in(folder)), seconds, sum(sizes)
 
 
-@cli.command(NAME)
-def main(words: list[str]) -> int:
+parser = cli.of(
+    "openers_beside",
+    __doc__,
+    cli.argument("--runs", type=int, default=1, help="the runs of each tool; 1 if not given"),
+    cli.argument("images", metavar="IMAGE", nargs="+", type=Path, help="a flash image"),
+)
+
+
+@cli.command(parser)
+def main(given: argparse.Namespace) -> int:
     """Prints a row for each image. Returns the exit status."""
-    reader = cli.Parser(NAME, __doc__)
-    reader.add_argument("--runs", type=int, default=1, help="the runs of each tool; 1 if not given")
-    reader.add_argument("images", metavar="IMAGE", nargs="+", type=Path, help="a flash image")
-    given = reader.parse_args(words)
     print(f"| {' | '.join(COLUMNS)} |\n|{'---|' * len(COLUMNS)}")
     status = cli.DONE
     for image in given.images:

@@ -104,26 +104,20 @@ class Page(HTMLParser):
     def __init__(self, text: str) -> None:
         super().__init__()
         self.text = text
-        self.tags: list[str] = []
         self.attributes: list[tuple[str, str]] = []
-        self.texts: list[str] = []
-        self.drawn: list[str] = []
+        self.tags, self.texts, self.drawn, self.open = (list[str]() for _ in range(4))
         self.rows: list[list[str]] = []
-        self.open: list[str] = []
         self.feed(text)
         self.close()
 
     def handle_starttag(self, tag: str, attrs: list[tuple[str, str | None]]) -> None:
         self.tags.append(tag)
         self.attributes += [(key, value or "") for key, value in attrs]
-        if tag not in ("wbr", "meta"):
-            self.open.append(tag)
-        if tag == "tr":
-            self.rows.append([])
-        elif tag in ("td", "th"):
+        self.open += [tag] * (tag not in ("wbr", "meta"))
+        self.rows += [[]] * (tag == "tr")
+        self.drawn += [""] * (tag == "b")
+        if tag in ("td", "th"):
             self.rows[-1].append("")
-        elif tag == "b":
-            self.drawn.append("")
 
     def handle_endtag(self, tag: str) -> None:
         while self.open and self.open.pop() != tag:
@@ -135,7 +129,7 @@ class Page(HTMLParser):
         self.texts.append(data)
         if "b" in self.open[-1:]:
             self.drawn[-1] += data
-        if self.rows and self.rows[-1] and any(tag in ("td", "th") for tag in self.open):
+        if self.rows and self.rows[-1] and {"td", "th"} & {*self.open}:
             self.rows[-1][-1] += data.strip("\n")
 
     def row_with(self, *words: str) -> list[str]:
@@ -238,14 +232,13 @@ class Pages(MapCase):
         """A volume with fixed files is drawn as any other, with the number of fixed files. A removed mark counts as a
         change."""
         page = self.page(0, "fixed.fd")
-        self.assertIn("volume 0", page.row_with("canonical 2 of 3 files fixed"))
-        self.assertIn("PEI core, fixed", page.row_with("PeiCore", "4072", "0xfe8"))
-        self.assertIn("SEC core, fixed", page.row_with("72", "0x48"))
-        self.assertIn("DXE driver", page.row_with("Alpha"))
-        self.assertEqual(page.text.count("2 of 3 files fixed"), 2)
         inside = self.page(0, "fixed-inside.fv")
-        inside.row_with("PeiCore", "PEI core, fixed")
-        inside.row_with("canonical 2 of 3 files fixed")
+        fixed, core, top, alpha = "canonical 2 of 3 files fixed", "PEI core, fixed", "SEC core, fixed", "DXE driver"
+        for words in (("volume 0", fixed), ("PeiCore", "4072", "0xfe8", core), ("72", "0x48", top), ("Alpha", alpha)):
+            page.row_with(*words)
+        for words in ((fixed,), ("PeiCore", core)):
+            inside.row_with(*words)
+        self.assertEqual(page.text.count("2 of 3 files fixed"), 2)
         self.assertFalse("rejected volume" in page.texts or "rejected volume" in inside.texts)
         changes = self.page(0, "--against", "less-fixed.fd", "fixed.fd").changes()
         self.assertEqual([row[:2] for row in changes], [["changed", "PeiCore"]])

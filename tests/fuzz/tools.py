@@ -31,9 +31,9 @@ from collections.abc import Callable, Iterable, Iterator
 
 import fv
 from fv import images, same, sbom, text, unpack
+from fv._page import draw
 from fv._sheet import drawing_of
 from fv.limits import Full, Limits
-from fv.map import draw
 from fv.names import CODE, Names
 from tests import making
 from tests.frame import LIBRARY
