@@ -62,8 +62,11 @@ def remove(folder: Path) -> None:
 
 
 def left_out(folder: str, names: list[str]) -> set[str]:
-    """Returns the names in a folder of the repository that are not copied: cargo's files, and the folders in out/."""
-    return {it for it in names if it == "target" or folder.endswith("/out") and Path(folder, it).is_dir()}
+    """Returns the names in a folder of the repository that are not copied: cargo's files, and the folders in out/ of a
+    crate."""
+    below = Path(folder).relative_to(ROOT)
+    is_out = below.match("crates/*/out")
+    return {it for it in names if is_out and Path(folder, it).is_dir() or str(below / it) == "rust/target"}
 
 
 def run(root: Path, command: list[str]) -> int:
