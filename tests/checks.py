@@ -7,6 +7,7 @@ from __future__ import annotations
 import glob
 import os
 import re
+import subprocess
 from pathlib import Path
 
 ROOT = Path(__file__).resolve().parents[1]
@@ -36,6 +37,20 @@ def first_line(path: str) -> str:
     """Returns the first line of a file. Bytes that are not text are replaced."""
     with open(path, encoding="utf-8", errors="replace") as file:
         return file.readline(200)
+
+
+def version_of(package: str, *way: str) -> str:
+    """Returns the installed version of a package of Debian, or nothing. The command `way` runs what asks for it."""
+    words = [*way, "dpkg-query", "-W", "-f", "${Version}", package]
+    try:
+        return subprocess.run(words, capture_output=True, text=True, check=False).stdout
+    except OSError:  # not a Debian
+        return ""
+
+
+def section(path: str | Path, heading: str) -> str:
+    """Returns the section of a document whose heading begins with these words."""
+    return read(path).split(f"\n## {heading}")[1].split("\n## ")[0]
 
 
 def skip(name: str, what: str, why: str) -> None:

@@ -1,4 +1,3 @@
-#!/usr/bin/env python3
 # SPDX-License-Identifier: BSD-2-Clause-Patent
 """Runs the examples of README.md, docs/PROGRAM.md, docs/FAULTS.md and the READMEs of recipes/, and compares their
 outputs and exit statuses with what the documents show. If documents are given, it runs only the examples of these
@@ -24,8 +23,9 @@ import subprocess
 import sys
 import tempfile
 from dataclasses import dataclass
+from subprocess import DEVNULL, PIPE, STDOUT
 
-from tests.checks import NOTHING_TRIED, ROOT, read, report, skip
+from tests.checks import NOTHING_TRIED, ROOT, read, report, skip, version_of
 
 # The documents with examples, by their names.
 DOCUMENTS = {"README": "README.md", "PROGRAM": "docs/PROGRAM.md", "FAULTS": "docs/FAULTS.md"} | {
@@ -34,6 +34,8 @@ DOCUMENTS = {"README": "README.md", "PROGRAM": "docs/PROGRAM.md", "FAULTS": "doc
 OVMF = "/usr/share/OVMF"
 LIBRARY = "libfv/out/libfv.so.2"
 MARK = "@@@ example"
+# A command, with the text for its standard input, and its output.
+EXAMPLE = re.compile(r"(?m)^\$ (.*<<'(\w+)'.*\n(?:.*\n)*?\2|.*)\n((?:(?!\$ ).*\n)*)")
 # cmp writes `char` in place of `byte` in the locale C.
 LOCALE = "LC_ALL=C.UTF-8"
 
@@ -52,38 +54,11 @@ class Example:
         return int(stated[1]) if stated else 0
 
 
-def blocks(text: str) -> list[list[str]]:
-    """Returns the indented blocks of a document that show commands, each as its lines without the indentation."""
-    found: list[list[str]] = []
-    lines: list[str] = []
-    is_code = False
-    for line in text.split("\n") + [""]:
-        is_code ^= line.startswith("```")
-        if not is_code and line.startswith("    "):
-            lines.append(line[4:])
-        elif lines:
-            found.append(lines)
-            lines = []
-    return [lines for lines in found if lines[0].startswith("$ ")]
-
-
-def examples(lines: list[str]) -> list[Example]:
-    """Returns the commands of a block, each with the output that is shown."""
-    commands: list[list[str]] = []
-    outputs: list[list[str]] = []
-    end = ""
-    for line in lines:
-        if end:
-            commands[-1].append(line)
-            end = "" if line == end else end
-        elif line.startswith("$ "):
-            commands.append([line[2:]])
-            outputs.append([])
-            here = re.search(r"<<'(\w+)'", line)
-            end = here[1] if here else ""
-        else:
-            outputs[-1].append(line)
-    return [Example("\n".join(command), "\n".join(output)) for command, output in zip(commands, outputs)]
+def examples(text: str) -> list[Example]:
+    """Returns the commands in the indented blocks of a document, each with the output that is shown."""
+    blocks = re.findall(r"(?m)^(?: {4}.*\n)+", re.sub(r"(?ms)^```.*?^```", "", f"{text}\n"))
+    plain = [re.sub("(?m)^ {4}", "", it) for it in blocks if it.startswith("    $ ")]
+    return [Example(it[1], it[3][:-1]) for block in plain for it in EXAMPLE.finditer(block)]
 
 
 @dataclass(frozen=True)
@@ -112,28 +87,12 @@ class Place:
         return self.within(*clean, LOCALE, "bash", user="nobody:nogroup")
 
 
-def installed(place: Place) -> str | None:
-    """Returns the installed version of Debian's package ovmf, if the package is installed."""
-    words = place.within("dpkg-query", "-W", "-f", "${Version}", "ovmf")
-    try:
-        asked = subprocess.run(words, capture_output=True, text=True, check=False)
-    except OSError:
-        return None
-    return asked.stdout if asked.returncode == 0 else None
-
-
 def run(commands: list[str], place: Place) -> list[tuple[str, int]]:
     """Runs the commands in one shell. Returns the output and the exit status of each."""
     script = "\n".join(f"{command}\necho '{MARK}' $?" for command in commands)
     with tempfile.TemporaryDirectory(dir=os.path.join(place.root, "tmp") if place.root else None) as folder:
-        done = subprocess.run(
-            [*place.shell(folder), "-c", script],
-            stdin=subprocess.DEVNULL,
-            stdout=subprocess.PIPE,
-            stderr=subprocess.STDOUT,
-            text=True,
-            check=False,
-        )
+        words = [*place.shell(folder), "-c", script]
+        done = subprocess.run(words, stdin=DEVNULL, stdout=PIPE, stderr=STDOUT, text=True, check=False)
     # Each piece but the first begins with the line of the status of the command before.
     pieces = [it.partition("\n") for it in f"\n{done.stdout}".split(MARK + " ")]
     return [(output.rstrip("\n"), int(after[0])) for (_, _, output), after in zip(pieces, pieces[1:])]
@@ -143,7 +102,7 @@ def lacking(text: str, tried: list[Example], place: Place) -> str:
     """Returns the reason why the examples of a document with this text cannot be run here, or nothing if they can be
     run."""
     version = re.search(r"version (\S+) of the package", text)
-    if tried and OVMF in text and (not version or installed(place) != version[1]):
+    if tried and OVMF in text and (not version or version_of("ovmf", *place.within()) != version[1]):
         return f"ovmf {version and version[1]} is not installed"
     needs_library = not place.root and any(re.search("fv-same|fv-unpack", it.command) for it in tried)
     return "the library is not built" if needs_library and not os.path.exists(ROOT / LIBRARY) else ""
@@ -162,7 +121,7 @@ def main() -> int:
     for name in given.documents or DOCUMENTS:
         document = DOCUMENTS.get(name, name)
         text = read(ROOT / document)
-        tried = [it for lines in blocks(text) for it in examples(lines) if not it.command.startswith("sudo ")]
+        tried = [it for it in examples(text) if not it.command.startswith("sudo ")]
         reason = lacking(text, tried, place)
         if reason:
             skipped += len(tried)

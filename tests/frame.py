@@ -19,11 +19,11 @@ import sys
 import tempfile
 import time
 import unittest
-from collections.abc import Callable, Iterator
+from collections.abc import Callable
 from pathlib import Path
 from typing import Any, TypeVar
 
-from tests.checks import NOTHING_TRIED, ROOT, skip
+from tests.checks import NOTHING_TRIED, ROOT, skip, version_of
 
 PROGRAM = Path(os.environ.get("FVTOOL") or ROOT / "crates/fv_tool/out/fv_tool")
 LIBRARY = Path(os.environ.get("LIBFV") or ROOT / "libfv/out/libfv.so.2")
@@ -41,9 +41,7 @@ def needs_tool(tool: str, package: str = "") -> Callable[[Tests], Tests]:
 
 def needs_firmware(package: str) -> Callable[[Tests], Tests]:
     """Skips a test if the version of Debian's images that the tests know is not installed."""
-    words = ["dpkg-query", "-W", "-f", "${Version}", package]
-    found = shutil.which(words[0]) and subprocess.run(words, capture_output=True, text=True, check=False).stdout
-    return unittest.skipUnless(found == FIRMWARE, f"no package {package} {FIRMWARE} of Debian")
+    return unittest.skipUnless(version_of(package) == FIRMWARE, f"no package {package} {FIRMWARE} of Debian")
 
 
 class RoomCase(unittest.TestCase):
@@ -61,16 +59,19 @@ class RoomCase(unittest.TestCase):
         self.addCleanup(os.chdir, os.getcwd())
         os.chdir(self.room)
 
-    def run_command(self, *words: str | Path, **more: Any) -> subprocess.CompletedProcess[str]:
+    @staticmethod
+    def run_command(*words: str | Path, **more: Any) -> subprocess.CompletedProcess[str]:
         """Runs a command. Both streams are kept apart, and `env` is added to the environment."""
         env = {**os.environ, **more.pop("env", {})}
         how: dict[str, Any] = {"capture_output": True, "text": True, "errors": "surrogateescape", **more}
         return subprocess.run(words, env=env, **how)
 
-    def runs(self, status: int, *words: str | Path, **more: Any) -> str:
+    @classmethod
+    def runs(cls, status: int, *words: str | Path, **more: Any) -> str:
         """Runs a command, checks its status, and returns what it writes to standard output."""
-        said = self.run_command(*words, **more)
-        self.assertEqual(said.returncode, status, f"{words}: {said.stdout}{said.stderr}")
+        said = cls.run_command(*words, **more)
+        if said.returncode != status:
+            raise cls.failureException(f"{words} ended with {said.returncode}: {said.stdout}{said.stderr}")
         return str(said.stdout)
 
     def expect(self, status: int, text: str, *words: str | Path, **more: Any) -> None:
@@ -98,13 +99,9 @@ class Result(unittest.TextTestResult):
             self.stream.write(f"    {time.monotonic() - self.began:.1f} s\n")
 
 
-def tests_in(suite: unittest.TestSuite) -> Iterator[unittest.TestCase]:
-    """Yields the tests of a suite."""
-    for it in suite:
-        if isinstance(it, unittest.TestSuite):
-            yield from tests_in(it)
-        else:
-            yield it
+def tests_in(suite: unittest.TestSuite) -> list[unittest.TestCase]:
+    """Returns the tests of a suite."""
+    return [test for it in suite for test in (tests_in(it) if isinstance(it, unittest.TestSuite) else [it])]
 
 
 def short(test: unittest.TestCase, package: str) -> str:

@@ -21,6 +21,7 @@ import argparse
 import contextlib
 import ctypes
 import fnmatch
+import glob
 import os
 import queue
 import re
@@ -79,23 +80,18 @@ class Check:
         return [*shlex.split(self.runs), *arguments]
 
 
-def bad_edits(run: Run) -> list[str]:
-    """Returns the edits that did not reach the prover. rt ci also passes if an edit cannot be applied or compiled, but
-    that edit shows nothing."""
-    lines = run.output("prove").splitlines() if "prove" in run.results else ["BAD EDIT: prove has not run"]
-    return [line for line in lines if "BAD EDIT" in line]
-
-
 def written(run: Run) -> list[str]:
     """Returns the files of the repository that have changed since the run began, except made files."""
-    return [f"{it} was written, changed or removed" for it in differing(run.files, files(ROOT))]
+    return [f"{it} was written, changed or removed" for it in sorted({it[0] for it in run.files ^ files(ROOT)})]
 
 
 # fmt: off
 CHECKS = (
     Check("prove", """bash -c 'rt ci && tools/statement --keep "$OUTPUT"'""", ALONE,
           "proves all crates from nothing, with their tests, programs and must-fail edits (rt ci)"),
-    Check("edits", bad_edits, 0, "each must-fail edit has reached the prover in rt ci", after=("prove",)),
+    # rt ci also passes if an edit cannot be applied or compiled, but that edit shows nothing. grep fails without rt ci.
+    Check("edits", """bash -c 'grep "BAD EDIT" "${OUTPUT%/*}/prove.said"; (($? == 1))'""", 0,
+          "each must-fail edit has reached the prover in rt ci", after=("prove",)),
     Check("program", "tools/prove.py fv_tool", QUICK | ALONE,
           "the program is built from these sources, or is built now", after=("prove",), needs=("program",)),
     Check("archive", "python3 -m tests.mutants.archive", ALONE,
@@ -178,21 +174,15 @@ def counted(name: str, status: int, output: str) -> Result:
     return Result(passed, max(failed, int(status != 0)), skips, f"it ended with status {status}" * bool(status))
 
 
-def files(root: Path) -> dict[str, tuple[int, ...]]:
+def files(root: Path) -> set[tuple[str, int, int, int]]:
     """Returns the files below a folder, except made files, with the time of their last change, their size and mode."""
-    found: dict[str, tuple[int, ...]] = {}
+    found = set()
     for folder, folders, names in os.walk(root):
         folders[:] = [it for it in folders if it not in OUTPUTS]
-        for name in names:
-            status = os.lstat(os.path.join(folder, name))
-            path = os.path.relpath(os.path.join(folder, name), root)
-            found[path] = status.st_mtime_ns, status.st_size, status.st_mode
+        for path in (os.path.join(folder, it) for it in names):
+            status = os.lstat(path)
+            found.add((os.path.relpath(path, root), status.st_mtime_ns, status.st_size, status.st_mode))
     return found
-
-
-def differing(before: dict[str, tuple[int, ...]], after: dict[str, tuple[int, ...]]) -> list[str]:
-    """Returns the files that are written, changed or removed."""
-    return sorted(it for it in {*before, *after} if before.get(it) != after.get(it))
 
 
 def environment(jobs: int) -> dict[str, str]:
@@ -214,41 +204,33 @@ def usual_jobs() -> int:
     """Returns the number of checks that run side by side: one for each processor, if there are 4 GB for each (the
     largest check of rt ci takes 3). By default, rt ci estimates two to three times the memory that a check takes, and
     starts the crate with the longest chain last."""
-    given = os.environ.get("RT_JOBS", "")
-    with open("/proc/meminfo", encoding="utf-8") as file:
-        free = next(int(line.split()[1]) for line in file if line.startswith("MemAvailable:"))
-    return (
-        int(given) if given.isdigit() and int(given) else max(1, min(len(os.sched_getaffinity(0)), free // 4_000_000))
-    )
+    given = os.environ.get("RT_JOBS", "0")
+    free = re.findall(r"MemAvailable: *(\d+)", Path("/proc/meminfo").read_text(encoding="utf-8"))[0]
+    most = min(len(os.sched_getaffinity(0)), int(free) // 4_000_000)
+    return given.isdigit() and int(given) or max(1, most)
 
 
-def descendants() -> list[int]:
-    """Returns the processes that this process or its descendants have started, except those that have ended."""
-    parents: dict[int, int] = {}
-    for path in Path("/proc").glob("[0-9]*/stat"):
-        try:
-            state, parent = path.read_text(errors="replace").rpartition(")")[2].split()[:2]
-        except OSError:
-            continue
-        if state != "Z":
-            parents[int(path.parent.name)] = int(parent)
-    found = {os.getpid()}
-    while more := {child for child, parent in parents.items() if parent in found} - found:
-        found |= more
-    return sorted(found - {os.getpid()})
+def descendants(process: int) -> list[int]:
+    """Returns the processes that a process or its descendants have started."""
+    found: list[int] = []
+    for path in glob.glob(f"/proc/{process}/task/*/children"):
+        with contextlib.suppress(OSError):  # the process has ended
+            found += map(int, Path(path).read_text().split())
+    return [*found, *(it for child in found for it in descendants(child))]
 
 
-def end_all() -> None:
-    """Ends all processes that the checks have started: first in a way that lets them remove their files."""
-    for sign, seconds in ((signal.SIGINT, 5), (signal.SIGTERM, 2), (signal.SIGKILL, 5)):
-        left = descendants()
-        for process in left:
+def end_all(patience: float) -> None:
+    """Ends all processes that the checks have started: first in a way that lets them remove their files, in this many
+    seconds."""
+    for sign in (signal.SIGINT, signal.SIGTERM, signal.SIGKILL):
+        for process in descendants(os.getpid()):
             with contextlib.suppress(ProcessLookupError):
                 os.kill(process, sign)
-        end = time.monotonic() + seconds
-        while left and time.monotonic() < end:
-            time.sleep(0.05)
-            left = descendants()
+        end = time.monotonic() + patience
+        with contextlib.suppress(ChildProcessError):  # no process is left
+            while time.monotonic() < end:
+                if os.waitpid(-1, os.WNOHANG) == (0, 0):
+                    time.sleep(0.05)
 
 
 class Run:
@@ -260,14 +242,15 @@ class Run:
         self.waiting = [*self.checks]
         self.is_live = given.verbose or len(self.waiting) == 1
         self.environment = environment(given.jobs)
-        self.files = files(ROOT)
+        self.files = files(ROOT) if "written" in given.chosen else set()
         self.results: dict[str, Result] = {}
         self.running: dict[str, Check] = {}
         self.ended: queue.Queue[tuple[Check, Result, float]] = queue.Queue()
 
     def output(self, name: str) -> str:
         """Returns the output of a check so far."""
-        return (self.room / f"{name}.said").read_text(encoding="utf-8", errors="replace")
+        path = self.room / f"{name}.said"
+        return path.read_text(encoding="utf-8", errors="replace") if path.exists() else ""
 
     def hindered(self, check: Check) -> Result | None:
         """Returns the result of a check that cannot be run, because a check that it needs has failed, or because
@@ -281,10 +264,10 @@ class Run:
         return None
 
     def try_one(self, check: Check) -> None:
-        """Runs a check. (This is a thread of its own.)"""
+        """Runs a check, unless it is hindered. (This is a thread of its own.)"""
         began = time.monotonic()
         try:
-            result = counted(check.name, self.status(check), self.output(check.name))
+            result = self.hindered(check) or counted(check.name, self.status(check), self.output(check.name))
         except Exception as error:  # whatever it is, the check has failed, and the run goes on
             result = Result(failed=1, why=str(error))
         self.ended.put((check, result, time.monotonic() - began))
@@ -320,11 +303,7 @@ class Run:
                 continue
             self.waiting.remove(check)
             self.running[check.name] = check
-            hindered = self.hindered(check)
-            if hindered:
-                self.ended.put((check, hindered, 0.0))
-            else:
-                threading.Thread(target=self.try_one, args=(check,), daemon=True).start()
+            threading.Thread(target=self.try_one, args=(check,), daemon=True).start()
 
     def run(self) -> None:
         """Runs the checks, and prints a line for each when it ends."""
@@ -337,8 +316,7 @@ class Run:
 
     def show(self, check: Check, result: Result, seconds: float) -> None:
         """Prints the line of a check that has ended, and the end of its output if it has failed."""
-        path = self.room / f"{check.name}.said"
-        lines = self.output(check.name).splitlines() if path.exists() else []
+        lines = self.output(check.name).splitlines()
         said = [result.why, *(lines[-1:] if result.state == "passed" else result.skips)]
         first = next((it.removeprefix(f"{check.name}: ") for it in said if it), "")
         print(f"{check.name}: {result.state}, {seconds:.1f} s" + f": {first}" * bool(first), flush=True)
@@ -364,12 +342,19 @@ class Run:
         return int(bool(wrong or skips and self.given.strict))
 
 
-def chosen(reader: argparse.ArgumentParser, checks: tuple[Check, ...]) -> argparse.Namespace:
+def arguments(checks: tuple[Check, ...]) -> argparse.Namespace:
     """Reads the arguments. Adds the names of the checks that they choose, each with the arguments of the check."""
-    words, further = sys.argv[1:], list[str]()
-    if "--" in words:
-        words, further = words[: words.index("--")], words[words.index("--") + 1 :]
-    given = reader.parse_args(words)
+    form = argparse.RawDescriptionHelpFormatter
+    reader = argparse.ArgumentParser(prog="tests/run.py", description=__doc__, formatter_class=form)
+    reader.add_argument("names", metavar="NAME", nargs="*", help="a check, or one case of it (none: all checks)")
+    reader.add_argument("--quick", action="store_true", help="only the checks that prove nothing, marked * in --list")
+    reader.add_argument("--strict", action="store_true", help="fails if anything was skipped, as a release needs")
+    reader.add_argument("--jobs", type=int, default=usual_jobs(), help="how many run side by side (here %(default)s)")
+    reader.add_argument("--verbose", action="store_true", help="shows the output of each check")
+    reader.add_argument("--list", action="store_true", help="lists the checks, and runs none")
+    end = [*sys.argv, "--"].index("--")
+    further = sys.argv[end + 1 :]
+    given = reader.parse_args(sys.argv[1:end])
     given.chosen = {}
     for name in given.names:
         pattern, _, case = name.partition(".")
@@ -386,27 +371,9 @@ def chosen(reader: argparse.ArgumentParser, checks: tuple[Check, ...]) -> argpar
     return given
 
 
-def arguments() -> argparse.ArgumentParser:
-    """Returns a reader of the arguments before `--`."""
-    form = argparse.RawDescriptionHelpFormatter
-    reader = argparse.ArgumentParser(prog="tests/run.py", description=__doc__, formatter_class=form)
-    reader.add_argument("names", metavar="NAME", nargs="*", help="a check, or one case of it (none: all checks)")
-    reader.add_argument("--quick", action="store_true", help="only the checks that prove nothing, marked * in --list")
-    reader.add_argument("--strict", action="store_true", help="fails if anything was skipped, as a release needs")
-    reader.add_argument("--jobs", type=int, default=usual_jobs(), help="how many run side by side (here %(default)s)")
-    reader.add_argument("--verbose", action="store_true", help="shows the output of each check")
-    reader.add_argument("--list", action="store_true", help="lists the checks, and runs none")
-    return reader
-
-
-def interrupt(number: int, _: object) -> None:
-    """Ends this process as Ctrl-C does."""
-    raise KeyboardInterrupt(signal.Signals(number).name)
-
-
-def main(checks: tuple[Check, ...] = CHECKS) -> int:
+def main(checks: tuple[Check, ...] = CHECKS, patience: float = 5) -> int:
     """Runs the checks that the arguments choose. Returns the exit status."""
-    given = chosen(arguments(), checks)
+    given = arguments(checks)
     if given.list:
         for it in (it for it in checks if it.name in given.chosen):
             after = f" (after {', '.join(it.first())})" * bool(it.first())
@@ -414,11 +381,10 @@ def main(checks: tuple[Check, ...] = CHECKS) -> int:
         return 0
     if "prove" in given.chosen and subprocess.run(["tools/prove.py", "--kit"], cwd=ROOT, check=False).returncode:
         return 1
-    ctypes.CDLL(None).prctl(
-        36, 1
-    )  # PR_SET_CHILD_SUBREAPER: a process whose parent has ended becomes a child of this one
+    # PR_SET_CHILD_SUBREAPER: a process whose parent has ended becomes a child of this one.
+    ctypes.CDLL(None).prctl(36, 1)
     for number in (signal.SIGTERM, signal.SIGHUP):
-        signal.signal(number, interrupt)
+        signal.signal(number, signal.default_int_handler)
     os.umask(0o022)
     room = Path(tempfile.mkdtemp(prefix="checks-"))
     room.chmod(0o755)  # other users run some of what the checks make
@@ -436,7 +402,7 @@ def main(checks: tuple[Check, ...] = CHECKS) -> int:
     finally:
         for number in (signal.SIGINT, signal.SIGTERM, signal.SIGHUP):
             signal.signal(number, signal.SIG_IGN)
-        end_all()
+        end_all(patience)
         subprocess.run(["rm", "-rf", "--one-file-system", room], check=False)
 
 

@@ -4,7 +4,7 @@
 #
 # A check prints one line `NAME: skipped: WHAT, WHY` on standard output for each such thing. It ends with status 0 if
 # everything else was right, and with status $NOTHING_TRIED if it could try nothing at all. tests/run.py counts
-# these lines. A check that runs another script passes on the lines of that script.
+# these lines.
 export NOTHING_TRIED=77
 
 # Prints the line for a thing that this script could not try.
@@ -21,16 +21,6 @@ skip_all() { # WHAT WHY
 # Succeeds if a tool is installed. Otherwise prints the line for the thing that the tool is needed for.
 has_tool() { # TOOL WHAT [PACKAGE OF DEBIAN]
     command -v "$1" > /dev/null || { skip "$2" "no $1${3:+ (Debian: $3)}"; return 1; }
-}
-
-# Prints the names of the skipped things in the output of a script, without the name of the script.
-skipped_in() { # FILE
-    sed -nE 's/^([^ ]+: )?skipped: //p' "$1"
-}
-
-# Passes on the lines of a script that this check has run, with the name of this check, and of a part of it.
-pass_on() { # FILE [PART]
-    skipped_in "$1" | sed "s|^|${0##*/}: skipped: ${2:+$2: }|"
 }
 
 # The modules in Python of the tests, the package and the tools are found by their names, from every folder.

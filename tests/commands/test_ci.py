@@ -1,7 +1,7 @@
 # SPDX-License-Identifier: BSD-2-Clause-Patent
 """The jobs of recipes/ci over made images, by the shells of GitHub and GitLab. With the variable ROOT, the root of
-another system, the jobs run there, by the commands that are installed there (tests/install/roots, in new roots of
-Debian). TMPDIR is a folder in that root then."""
+another system, the jobs run there, by the commands that are installed there (tests/install/test_release.py, in new
+roots of Debian). TMPDIR is a folder in that root then."""
 
 from __future__ import annotations
 

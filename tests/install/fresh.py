@@ -13,6 +13,7 @@ import subprocess
 import sys
 import tempfile
 from pathlib import Path
+from subprocess import PIPE, STDOUT
 
 from tests.checks import ROOT, skip_all
 
@@ -32,7 +33,11 @@ exec chroot "$root" env -i -C /repository PATH="$kit/bin:/usr/local/bin:/usr/bin
 
 
 def make_root(suite: str, folder: Path, *packages: str) -> str:
-    """Makes a root with these packages. Returns the reason why no root can be made here, or nothing if it is made."""
+    """Makes a root with these packages, if there is none yet. Returns the reason why no root can be made here, or
+    nothing."""
+    mark = folder / "etc/dpkg/dpkg.cfg.d/new-root"
+    if mark.exists():
+        return ""
     if os.getuid():
         return "not run by root"
     for tool in ("debootstrap", "wget"):
@@ -43,17 +48,12 @@ def make_root(suite: str, folder: Path, *packages: str) -> str:
         return f"no mirror of {suite}"
     options = [f"--include={','.join(packages)}"] * bool(packages) + ["--force-check-gpg", "--variant=minbase"]
     words = ["timeout", "900", "debootstrap", *options, suite, str(folder), MIRROR]
-    said = subprocess.run(words, stdout=subprocess.PIPE, stderr=subprocess.STDOUT, text=True, check=False)
+    said = subprocess.run(words, stdout=PIPE, stderr=STDOUT, text=True, check=False)
     if said.returncode:
         return f"debootstrap {suite}: {said.stdout.strip().rpartition(os.linesep)[2]}"
     # dpkg need not wait for the disk, because the root is removed again.
-    (folder / "etc/dpkg/dpkg.cfg.d/new-root").write_text("force-unsafe-io\n")
+    mark.write_text("force-unsafe-io\n")
     return ""
-
-
-def is_made(folder: Path) -> bool:
-    """Returns whether a root is made in a folder."""
-    return (folder / "etc/dpkg/dpkg.cfg.d/new-root").exists()
 
 
 def remove(folder: Path) -> None:
@@ -61,29 +61,24 @@ def remove(folder: Path) -> None:
     subprocess.run(["rm", "-rf", "--one-file-system", folder], check=False)
 
 
-def copy_repository(to: Path) -> None:
-    """Copies the repository, with the files of its folders out/ but not the folders in them."""
-    remove(to)
-    to.mkdir()
-    left_out = ["(", "-path", "./crates/*/out/*", "-type", "d", "-o", "-path", "./rust/target", ")", "-prune"]
-    words = ["find", ".", *left_out, "-o", "!", "-type", "d", "-print0"]
-    listed = subprocess.run(words, cwd=ROOT, stdout=subprocess.PIPE, check=True).stdout
-    subprocess.run(["xargs", "-0", "cp", "--archive", "--parents", "-t", to], input=listed, cwd=ROOT, check=True)
-    subprocess.run(["chown", "-R", "0:0", to], check=True)  # git reads no repository of another user
+def left_out(folder: str, names: list[str]) -> set[str]:
+    """Returns the names in a folder of the repository that are not copied: cargo's files, and the folders in out/ of a
+    crate."""
+    below = Path(folder).relative_to(ROOT)
+    is_out = below.match("crates/*/out")
+    return {it for it in names if is_out and Path(folder, it).is_dir() or str(below / it) == "rust/target"}
 
 
 def run(root: Path, command: list[str]) -> int:
     """Runs a command in a root, or `make check`. Returns the exit status."""
-    kit = Path(subprocess.run(["rt", "doc"], stdout=subprocess.PIPE, text=True, check=True).stdout.strip()).parent
+    kit = Path(subprocess.run(["rt", "doc"], stdout=PIPE, text=True, check=True).stdout.strip()).parent
     inside = ["unshare", "--mount", "--propagation", "private", "bash", "-euc", INSIDE, "", str(root), str(kit)]
-    tried = subprocess.run([*inside, "true"], stderr=subprocess.PIPE, text=True, check=False)
+    tried = subprocess.run([*inside, "true"], stderr=PIPE, text=True, check=False)
     if tried.returncode:
         return skip_all("fresh", WHAT, f"no mounts: {tried.stderr.strip()}")
     if command:
         return subprocess.run([*inside, *command], check=False).returncode
-    said = subprocess.run(
-        [*inside, "make", "check"], stdout=subprocess.PIPE, stderr=subprocess.STDOUT, text=True, check=False
-    )
+    said = subprocess.run([*inside, "make", "check"], stdout=PIPE, stderr=STDOUT, text=True, check=False)
     last = said.stdout.strip().rpartition("\n")[2]
     print(said.stdout if said.returncode else f"fresh: {WHAT}: {last}")
     return int(bool(said.returncode))
@@ -99,10 +94,11 @@ def main() -> int:
     try:
         root = given.keep.absolute() if given.keep else room / "root"
         root.mkdir(parents=True, exist_ok=True)
-        why = "" if is_made(root) else make_root("bookworm", root, *PACKAGES)
-        if why:
+        if why := make_root("bookworm", root, *PACKAGES):
             return skip_all("fresh", WHAT, why)
-        copy_repository(root / "repository")
+        remove(root / "repository")
+        # The copy belongs to root: git reads no repository of another user.
+        shutil.copytree(ROOT, root / "repository", symlinks=True, ignore=left_out)
         return run(root, given.command)
     finally:
         remove(room)

@@ -30,7 +30,7 @@ def dead_links(page: Path, text: str) -> Iterator[str]:
     """Yields the links of a page that lead to nothing."""
     for name, anchor in LINK.findall(text):
         target = page.parent / name if name else page
-        if "://" not in name and (not target.is_file() or (anchor and anchor not in anchors(read(target)))):
+        if "://" not in name and (not target.exists() or (anchor and anchor not in anchors(read(target)))):
             yield f"{page}: a link leads to {name}{f'#{anchor}' if anchor else ''}, which is not there"
 
 

@@ -10,6 +10,7 @@ import subprocess
 import sys
 import unittest
 from pathlib import Path
+from subprocess import PIPE, STDOUT
 
 import rows
 
@@ -37,6 +38,14 @@ NAME = "0a0a0a0a-0a0a-0a0a-0a0a-0a0a0a0a0a0a"
 def below(folder: Path) -> list[str]:
     """Returns the names of the files and links below a folder."""
     return sorted(str(it.relative_to(folder)) for it in folder.rglob("*") if it.is_symlink() or not it.is_dir())
+
+
+def copy_built(tree: Path) -> None:
+    """Copies the built files into a copy of the repository."""
+    for path in (*ROOT.glob(f"{PROGRAM}*"), *ROOT.glob(f"{ARCHIVE}*")):
+        place = tree / path.relative_to(ROOT)
+        place.parent.mkdir(exist_ok=True)
+        shutil.copy2(path, place)
 
 
 class ImageCase(RoomCase):
@@ -90,10 +99,8 @@ class InstallCase(ImageCase):
         cls.tree = cls.room / "a tree"
         left_out = shutil.ignore_patterns(".git", "out", "target", "dist", "__pycache__")
         shutil.copytree(ROOT, cls.tree, symlinks=True, ignore=left_out)
-        for path in (path for name in (PROGRAM, ARCHIVE) if cls.is_built for path in ROOT.glob(f"{name}*")):
-            place = cls.tree / path.relative_to(ROOT)
-            place.parent.mkdir(exist_ok=True)
-            shutil.copy2(path, place)
+        if cls.is_built:
+            copy_built(cls.tree)
         cls.before = below(cls.tree)
 
     def setUp(self) -> None:
@@ -101,9 +108,6 @@ class InstallCase(ImageCase):
         self.addCleanup(lambda: self.assertEqual(below(self.tree), self.before))  # no file may appear in the tree
 
     @classmethod
-    def make(cls, *words: str | Path, status: int = 0, says: str = "") -> None:
-        """Runs make in the tree, and checks its status and that it says something."""
-        words = ("make", "-C", cls.tree, *words)
-        said = subprocess.run(words, stdout=subprocess.PIPE, stderr=subprocess.STDOUT, text=True, check=False)
-        if said.returncode != status or says not in said.stdout:
-            raise AssertionError(f"{words} ended with {said.returncode}: {said.stdout}")
+    def make(cls, *words: str | Path, status: int = 0) -> str:
+        """Runs make in the tree, checks its status, and returns what it writes."""
+        return cls.runs(status, "make", "-C", cls.tree, *words, capture_output=False, stdout=PIPE, stderr=STDOUT)

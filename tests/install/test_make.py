@@ -5,11 +5,11 @@ Python and Rust over the library, which pkg-config and CMake find. Uninstalls, a
 
 from __future__ import annotations
 
+import filecmp
 import os
 import re
 import shlex
 import shutil
-import subprocess
 import unittest
 from pathlib import Path
 
@@ -18,11 +18,8 @@ from tests.checks import NOTHING_TRIED, ROOT
 from tests.frame import needs_tool
 from tests.install.pages import dead_ends_of, lacking
 from tests.install.room import ARCHIVE, NAME, NUMBERS, PROGRAM, SYSTEM, VERSION, WANTED, InstallCase, below
+from tests.rust.test_rust import is_new
 
-HAS_CARGO = (
-    bool(shutil.which("cargo"))
-    and not subprocess.run(["cargo", "--version"], capture_output=True, check=False).returncode
-)
 COMPILER = os.environ.get("CC") or "cc"
 EXAMPLE = ROOT / "examples/volumes.c"
 ZSH = r"""zmodload zsh/zpty
@@ -48,6 +45,23 @@ target_link_libraries(archived PRIVATE libfv::static)
 """
 
 
+class ProgramCase(InstallCase):
+    """Tests of programs over the library."""
+
+    def try_program(self, *words: str, **env: str) -> None:
+        """Runs a program over the library, and compares what it writes."""
+        self.assertEqual(self.runs(0, *words, "flash", env=env), WANTED)
+
+    def compile(self, *words: str | Path, **env: str) -> None:
+        """Compiles and runs a program in C."""
+        self.runs(0, COMPILER, "-o", "compiled", EXAMPLE, *words)
+        self.try_program("./compiled", **env)
+
+    def try_configured(self, env: dict[str, str]) -> None:
+        """Compiles and runs a program in C over the library that pkg-config finds."""
+        self.compile(*shlex.split(self.runs(0, "pkg-config", "--cflags", "--libs", "libfv", env=env)), **env)
+
+
 class Unbuilt(InstallCase):
     """Runs commands in a copy of the repository without built files."""
 
@@ -56,18 +70,17 @@ class Unbuilt(InstallCase):
     def test_build(self) -> None:
         """`make install` proves nothing: it names the command that builds the missing file."""
         for target in ("install", "install-lib"):
-            self.make(target, f"DESTDIR={self.room}/root", status=2, says="is not built from these sources yet: ")
+            said = self.make(target, f"DESTDIR={self.room}/root", status=2)
+            self.assertIn("is not built from these sources yet: ", said)
             self.assertFalse((self.room / "root").exists())
 
     def test_kit(self) -> None:
         """Without the kit, each command that needs it names what can be installed without it."""
         folder = self.room / "without kit"
-        folder.mkdir()
-        for tool in Path("/usr/bin").iterdir():
-            if tool.name != "rt":
-                (folder / tool.name).symlink_to(tool)
+        self.runs(0, "cp", "--recursive", "--symbolic-link", "/usr/bin", folder)
+        (folder / "rt").unlink(missing_ok=True)
         for command in ("./fvtool", "libfv/build", ".ci/run", "make"):
-            said = self.run_command(command, cwd=self.tree, env={"PATH": str(folder)}, stdin=subprocess.DEVNULL)
+            said = self.run_command(command, cwd=self.tree, env={"PATH": str(folder)}, input="")
             self.assertNotEqual(said.returncode, 0, command)
             without = "Without the kit, install the packages or the wheel of a release"
             self.assertIn(without, said.stdout + said.stderr, command)
@@ -87,17 +100,21 @@ class Unbuilt(InstallCase):
         self.assertEqual(said, (ROOT / "crates/fv_tool/stdout").read_text())
 
 
-class Installed(InstallCase):
+class Installed(ProgramCase):
     """Tries the files that `make install install-lib` installs."""
 
     root: Path
     below: Path
+    variables: dict[str, str]  # by which pkg-config and the loader find the library
 
     @classmethod
     def setUpClass(cls) -> None:
         super().setUpClass()
         cls.root = cls.room / "root"
         cls.below = cls.root / "usr/local"
+        folder = f"{cls.below}/lib"
+        cls.variables = {"PKG_CONFIG_PATH": f"{folder}/pkgconfig", "LD_LIBRARY_PATH": folder}
+        cls.variables["PKG_CONFIG_SYSROOT_DIR"] = str(cls.root)
         cls.make("install", "install-lib", f"DESTDIR={cls.root}")
 
     def test_program(self) -> None:
@@ -105,7 +122,7 @@ class Installed(InstallCase):
         program = self.below / "bin/fvtool"
         for name, file in (("built", ROOT / PROGRAM), ("installed", program)):
             self.runs(0, "objcopy", "--output-target=binary", file, self.room / name)
-        self.assertEqual(Path("built").read_bytes(), Path("installed").read_bytes())
+        self.assertTrue(filecmp.cmp("built", "installed", shallow=False))
         self.assertIn(f"\nfvtool {VERSION}\n", self.runs(0, "strings", program))
         with (ROOT / "crates/fv_tool/stdin").open() as given:
             said = self.runs(0, "env", "-i", program, stdin=given)
@@ -187,50 +204,34 @@ class Installed(InstallCase):
         ):
             self.runs(0, "timeout", "60", "zsh", "-f", "complete.zsh", line, pattern, env=env)
 
-    def try_program(self, words: list[str], **env: str) -> None:
-        """Runs a program over the library, and compares what it writes."""
-        self.assertEqual(self.runs(0, *words, "flash", env=env), WANTED)
-
     def test_c(self) -> None:
         """Programs in C find the shared library and the archive."""
         include = f"-I{self.below}/include"
-        self.runs(0, COMPILER, "-o", "shared", include, EXAMPLE, f"-L{self.below}/lib", "-lfv")
-        self.try_program(["./shared"], LD_LIBRARY_PATH=f"{self.below}/lib")
-        self.runs(0, COMPILER, "-o", "static", include, EXAMPLE, self.below / "lib/libfv.a")
-        self.try_program(["./static"])
-
-    def configured(self) -> dict[str, str]:
-        """Returns the variables by which pkg-config and the loader find the library."""
-        folder = self.below / "lib"
-        found = {"PKG_CONFIG_PATH": f"{folder}/pkgconfig", "PKG_CONFIG_SYSROOT_DIR": str(self.root)}
-        return {**found, "LD_LIBRARY_PATH": str(folder)}
+        self.compile(include, f"-L{self.below}/lib", "-lfv", LD_LIBRARY_PATH=f"{self.below}/lib")
+        self.compile(include, self.below / "lib/libfv.a")
 
     @needs_tool("pkg-config", "pkgconf")
     def test_pkg_config(self) -> None:
         """pkg-config finds the library and its version."""
-        env = self.configured()
+        env = self.variables
         self.assertEqual(self.runs(0, "pkg-config", "--modversion", "libfv", env=env), f"{VERSION}\n")
         self.runs(0, "pkg-config", "--atleast-version=2.0", "libfv", env=env)
-        flags = shlex.split(self.runs(0, "pkg-config", "--cflags", "--libs", "libfv", env=env))
-        self.runs(0, COMPILER, "-o", "configured", EXAMPLE, *flags)
-        self.try_program(["./configured"], **env)
+        self.try_configured(env)
 
-    @unittest.skipUnless(HAS_CARGO and shutil.which("pkg-config"), "no cargo, or no pkg-config")
+    @unittest.skipUnless(is_new(1, 0) and shutil.which("pkg-config"), "no cargo, or no pkg-config")
     def test_rust(self) -> None:
         """A program in Rust finds the shared library."""
-        env = {**self.configured(), "CARGO_TARGET_DIR": f"{self.room}/rust"}
-        manifest = self.tree / "rust/Cargo.toml"
-        self.runs(
-            0, "cargo", "build", "--offline", "--locked", "--manifest-path", manifest, "--example", "volumes", env=env
-        )
-        self.try_program(["rust/debug/examples/volumes"], **env)
+        env = {**self.variables, "CARGO_TARGET_DIR": f"{self.room}/rust"}
+        words = ("cargo", "build", "--offline", "--locked", "--example", "volumes")
+        self.runs(0, *words, "--manifest-path", self.tree / "rust/Cargo.toml", env=env)
+        self.try_program("rust/debug/examples/volumes", **env)
         self.assertRegex(self.runs(0, "readelf", "-d", "rust/debug/examples/volumes"), "NEEDED.*libfv.so.2")
 
     def test_python(self) -> None:
         """A program in Python finds the package and the library."""
         [package] = self.below.glob("lib/**/fv/__init__.py")
         env = {"PYTHONPATH": str(package.parent.parent), "LD_LIBRARY_PATH": f"{self.below}/lib"}
-        self.try_program(["python3", "-B", str(ROOT / "examples/volumes.py")], **env)
+        self.try_program("python3", "-B", str(ROOT / "examples/volumes.py"), **env)
         said = self.runs(1, "python3", "-B", "-m", "fv", "check", "flash", env=env)
         self.assertEqual(said.splitlines()[-1], "volume 192 canonical false")
 
@@ -250,8 +251,8 @@ class Installed(InstallCase):
         for is_shared in (True, False):
             build(NUMBERS)
             self.runs(0, "cmake", "--build", "project/build")
-            self.try_program(["project/build/volumes"])
-            self.try_program(["project/build/archived"])
+            self.try_program("project/build/volumes")
+            self.try_program("project/build/archived")
             found = self.runs(0, "readelf", "-d", "project/build/volumes")
             self.assertEqual(bool(re.search("NEEDED.*libfv.so.2", found)), is_shared)
             for path in library.glob("libfv.so*") if is_shared else ():
@@ -260,19 +261,19 @@ class Installed(InstallCase):
         build("1000", 1)
 
 
-class Places(InstallCase):
+class Places(ProgramCase):
     """Installs into other folders, and uninstalls."""
 
-    def left(self, folder: Path) -> None:
-        """Checks that no file is left in a folder."""
-        self.assertEqual(below(folder), [])
+    def uninstall(self, folder: Path, *words: str, left: tuple[str, ...] = ()) -> None:
+        """Uninstalls, and checks which files are left in a folder."""
+        self.make("uninstall", *words)
+        self.assertEqual(below(folder), [*left])
 
     def test_uninstall(self) -> None:
         """`make uninstall` removes all files, and the folders of the program."""
         root = self.room / "root"
         self.make("install", "install-lib", f"DESTDIR={root}")
-        self.make("uninstall", f"DESTDIR={root}")
-        self.left(root)
+        self.uninstall(root, f"DESTDIR={root}")
         for folder in ("share/doc/fvtool", "share/doc/libfv", "share/fvtool", "lib/fvtool"):
             self.assertFalse((root / "usr/local" / folder).exists(), folder)
 
@@ -281,11 +282,10 @@ class Places(InstallCase):
         root = self.room / "shared root"
         shared = ["DOCDIR=/usr/local/share/doc", "LIBDOCDIR=/usr/local/share/doc", f"DESTDIR={root}"]
         self.make("install", "install-lib", *shared)
-        others = [f"usr/local/{it}/other" for it in ("lib/fvtool", "share/doc", "share/fvtool")]
+        others = tuple(f"usr/local/{it}/other" for it in ("lib/fvtool", "share/doc", "share/fvtool"))
         for name in others:
             (root / name).touch()
-        self.make("uninstall", *shared)
-        self.assertEqual(below(root), others)
+        self.uninstall(root, *shared, left=others)
 
     def test_space(self) -> None:
         """A folder with a space in its name works: the driver for git, the installed README, and the named page."""
@@ -294,15 +294,12 @@ class Places(InstallCase):
         if shutil.which("git"):
             self.git_works(prefix / "share/fvtool", prefix / "bin")
         manual = (prefix / "share/man/man1/fvtool.1").read_text().replace("\\-", "-")
-        named = re.search(r"\\fI([^\\]*FAULTS\.md)", manual)
-        self.assertTrue(named and Path(named[1]).exists(), named)
+        self.assertTrue(Path(re.findall(r"\\fI([^\\]*FAULTS\.md)", manual)[0]).exists())
         env = {"PATH": f"{prefix}/bin:{os.environ['PATH']}", "PYTHONPATH": str(ROOT)}
         said = self.run_command("python3", examples.__file__, prefix / "share/doc/fvtool/README.md", env=env)
         self.assertIn(said.returncode, (0, NOTHING_TRIED), said.stdout)
-        self.make("uninstall", f"PREFIX={prefix}")
-        self.left(prefix)
-        skipped = re.search("skipped: (.*)", said.stdout)
-        if skipped:
+        self.uninstall(prefix, f"PREFIX={prefix}")
+        if skipped := re.search("skipped: (.*)", said.stdout):
             self.skipTest(skipped[1])
 
     def git_works(self, data: Path, commands: Path) -> None:
@@ -328,20 +325,16 @@ class Places(InstallCase):
         """A program is compiled over a library in a folder with a space in its name."""
         prefix = self.room / "library pre fix"
         self.make("install-lib", f"PREFIX={prefix}")
-        env = {"PKG_CONFIG_PATH": f"{prefix}/lib/pkgconfig", "LD_LIBRARY_PATH": f"{prefix}/lib"}
-        flags = shlex.split(self.runs(0, "pkg-config", "--cflags", "--libs", "libfv", env=env))
-        self.runs(0, COMPILER, "-o", "spaced", EXAMPLE, *flags)
-        self.assertEqual(self.runs(0, "./spaced", "flash", env=env), WANTED)
-        self.make("uninstall", f"PREFIX={prefix}")
-        self.left(prefix)
+        self.try_configured({"PKG_CONFIG_PATH": f"{prefix}/lib/pkgconfig", "LD_LIBRARY_PATH": f"{prefix}/lib"})
+        self.uninstall(prefix, f"PREFIX={prefix}")
 
     def test_signs(self) -> None:
         """A folder with a character that a shell or make reads as something else is refused, and nothing is written."""
         for sign in "$'\"\\`#%&|\n\t":
             for target in ("install", "install-lib", "uninstall"):
                 with self.subTest(sign=sign, target=target):
-                    what = "a folder has a character that is not allowed"
-                    self.make(target, f"PREFIX={self.room}/x{sign}y", status=2, says=what)
+                    said = self.make(target, f"PREFIX={self.room}/x{sign}y", status=2)
+                    self.assertIn("a folder has a character that is not allowed", said)
         self.assertEqual([*self.room.glob("x*y")], [])
 
     def test_links(self) -> None:
@@ -356,7 +349,7 @@ class Places(InstallCase):
                 (linked / name).parent.mkdir(parents=True, exist_ok=True)
                 (linked / name).symlink_to(folder if name in ("bin/fvtool", "bin/fv-same") else untouched)
         self.make("install", "install-lib", f"PREFIX={linked}")
-        self.left(folder)
+        self.assertEqual(below(folder), [])
         self.assertEqual(untouched.stat().st_size, 0)
         self.assertEqual([it for it in linked.rglob("*") if it.resolve() in (untouched, folder)], [])
         for name in ("fvtool", "fv-same"):
@@ -385,6 +378,4 @@ class Places(InstallCase):
         self.runs(0, "make", "-C", "here/libfv")
         self.runs(0, "make", "-f", "there/libfv/Makefile", "OUT=there/libfv/out")
         for file in ("libfv.a", "libfv.so.2"):
-            self.assertEqual(
-                Path("here/libfv/out", file).read_bytes(), Path("there/libfv/out", file).read_bytes(), file
-            )
+            self.assertTrue(filecmp.cmp(f"here/libfv/out/{file}", f"there/libfv/out/{file}", shallow=False), file)

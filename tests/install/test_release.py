@@ -8,55 +8,41 @@ from __future__ import annotations
 import functools
 import os
 import shutil
-import subprocess
 import sys
 import tempfile
 import unittest
-from collections.abc import Iterator
 from pathlib import Path
 
 from tests.checks import ROOT
-from tests.frame import RoomCase, needs_tool
+from tests.frame import needs_tool
 from tests.install.fresh import make_root, remove
 from tests.install.pages import dead_ends_of, lacking
-
-from tests.install.room import (
-    ARCHIVE, MAJOR, NUMBERS, PROGRAM, PYTHONPATH, SYSTEM, VERSION, WANTED, ImageCase, InstallCase, below,
-)  # fmt: skip
+from tests.install.room import ARCHIVE, MAJOR, NUMBERS, PROGRAM, PYTHONPATH, SYSTEM, VERSION, WANTED
+from tests.install.room import ImageCase, InstallCase, below, copy_built
+from tests.rust.test_rust import is_new
 
 GIVEN = os.environ.get("RELEASE", "")
 FOLDER = Path(tempfile.mkdtemp())
 unittest.addModuleCleanup(shutil.rmtree, FOLDER)
 PACKAGES = ("fvtool", f"libfv{MAJOR}", "libfv-dev", "python3-fv")
 LIBRARY_PACKAGES = PACKAGES[1:]
-IN_GIT = subprocess.run(["git", "rev-parse", "HEAD"], cwd=ROOT, capture_output=True, check=False).returncode == 0
+INSTALL = ("apt-get", "install", "--yes", "--no-install-recommends")
+IN_GIT = ImageCase.run_command("git", "rev-parse", "HEAD", cwd=ROOT).returncode == 0
 
 
 def why_no_release() -> str:
     """Returns the reason why no release can be made here, or nothing."""
-    changed = (
-        IN_GIT
-        and subprocess.run(["git", "status", "--porcelain"], cwd=ROOT, stdout=subprocess.PIPE, check=False).stdout
-    )
-    cargo = (
-        shutil.which("cargo")
-        and subprocess.run(["cargo", "--version"], capture_output=True, text=True, check=False).stdout
-    )
-    numbers = [int(it) for it in (cargo or "cargo 0.0").split()[1].split(".")[:2]]
-    if not IN_GIT or changed:
+    if not IN_GIT or run("git", "status", "--porcelain"):
         return "not a git repository, or changes that are not committed"
-    if numbers < [1, 90] or not shutil.which("dpkg-deb"):
+    if not is_new(1, 90) or not shutil.which("dpkg-deb"):
         return "no cargo 1.90, or no dpkg-deb"
     has_object = (ROOT / f"{PROGRAM}.o").exists()
     return "" if has_object else "rt ci took the program of an earlier run, without its object"
 
 
-def run(*words: str | Path, **env: str) -> None:
-    """Runs a command in the repository."""
-    how = {"stdout": subprocess.PIPE, "stderr": subprocess.STDOUT, "text": True}
-    said = subprocess.run(words, cwd=ROOT, env={**os.environ, **env}, check=False, **how)  # type: ignore[call-overload]
-    if said.returncode:
-        raise AssertionError(f"{words} ended with {said.returncode}: {said.stdout}")
+def run(*words: str | Path, **env: str) -> str:
+    """Runs a command in the repository, and returns what it writes to standard output."""
+    return ImageCase.runs(0, *words, cwd=ROOT, env=env)
 
 
 @functools.cache
@@ -118,11 +104,8 @@ class Archive(InstallCase):
         tool = self.tree / "tools/statement"
         self.addCleanup(shutil.rmtree, self.tree / "out")
         Path("lines").write_text("1 passed, 0 failed\n")
-        for status, line in (
-            (1, "2 passed, 0 failed, 1 skipped"),
-            (1, "2 passed, 1 failed"),
-            (0, "2 passed, 0 failed"),
-        ):
+        lines = {"2 passed, 0 failed, 1 skipped": 1, "2 passed, 1 failed": 1, "2 passed, 0 failed": 0}
+        for line, status in lines.items():
             self.runs(0, tool, "--keep", "lines")
             self.runs(0, tool, "--keep-all", line)
             self.runs(status, tool, "--is-complete")
@@ -134,16 +117,12 @@ class Archive(InstallCase):
     @unittest.skipIf(GIVEN or why_no_release(), why_no_release() or "RELEASE is given")
     def test_release(self) -> None:
         """The unpacked source archive gives the same release, and a changed file of a release is found."""
-        for name in (PROGRAM, ARCHIVE):
-            for path in ROOT.glob(f"{name}*"):
-                (self.unpacked / name).parent.mkdir(parents=True, exist_ok=True)
-                shutil.copy2(path, (self.unpacked / name).parent)
+        copy_built(self.unpacked)
         if (ROOT / "out/gate").exists():
             (self.unpacked / "out").mkdir()
             shutil.copy2(ROOT / "out/gate", self.unpacked / "out")
-        said = self.run_command(self.unpacked / "tools/verify", release())
-        self.assertEqual(said.returncode, 0, said.stdout + said.stderr)
-        self.assertIn("\nverify: these sources make the same files", "\n" + said.stdout)
+        said = self.runs(0, self.unpacked / "tools/verify", release())
+        self.assertRegex(said, "(?m)^verify: these sources make the same files")
         shutil.copytree(release(), "changed")
         with Path("changed/fv.h").open("a") as file:
             file.write("\n")
@@ -159,7 +138,7 @@ class Packages(InstallCase):
         Path("again").mkdir()
         run("tools/deb", self.room / "again", CDPATH=".")
         for package in sorted(packages().iterdir()):
-            self.assertEqual(package.read_bytes(), (self.room / "again" / package.name).read_bytes(), package.name)
+            self.assertEqual(package.read_bytes(), Path("again", package.name).read_bytes(), package.name)
             print(f"{package.name}: {package.stat().st_size} bytes, twice the same")
 
     def stage(self, target: str, *words: str) -> list[str]:
@@ -227,7 +206,7 @@ class Roots(ImageCase):
 
     def install(self, *names: str) -> None:
         """Installs packages of Debian."""
-        self.inside("apt-get", "install", "--yes", "--no-install-recommends", *names)
+        self.inside(*INSTALL, *names)
 
     def as_user(self, status: int, *words: str) -> str:
         """Runs a command in the root, as a user who owns nothing there."""
@@ -245,14 +224,11 @@ class Roots(ImageCase):
         if why:
             self.skipTest(why)
         # If the mirror fails here, the test is skipped. If apt-get fails later, that is a fault of the packages.
-        words = ("apt-get", "install", "--yes", "--no-install-recommends", "--download-only", *needed)
-        said = self.run_command("chroot", self.root, *words)
+        said = self.run_command("chroot", self.root, *INSTALL, "--download-only", *needed)
         if said.returncode:
             self.skipTest(f"apt-get: {said.stderr.strip()}")
         self.way = ("chroot", "--userspec=nobody:nogroup", str(self.root), "env", "-C", "/tmp")
-        for name in ("flash", "made"):
-            self.runs(0, "cp", "-r", name, self.root / "tmp")
-        shutil.copy(ROOT / "examples/volumes.c", self.root / "tmp")
+        self.runs(0, "cp", "-r", "flash", "made", ROOT / "examples/volumes.c", self.root / "tmp")
         self.install_packages()
         self.try_packages()
         self.try_removal()
@@ -265,8 +241,7 @@ class Roots(ImageCase):
         self.install("gcc", "pkgconf")
         tools = self.root / "tmp/job/tools"
         tools.mkdir(parents=True)
-        for path in (*release().glob("*.deb"), release() / "SHA256SUMS"):
-            shutil.copy(path, tools)
+        self.runs(0, "cp", *release().glob("*.deb"), release() / "SHA256SUMS", tools)
         job = self.runs(0, ROOT / "recipes/ci/shell", ROOT / "recipes/ci/github.yml", "install")
         (self.root / "tmp/job/install").write_text(job)
         self.inside("env", "-C", "/tmp/job", "sh", "-e", "install")
@@ -274,14 +249,8 @@ class Roots(ImageCase):
 
     def try_packages(self) -> None:
         """Runs the installed program and commands, and programs in C and Python over the installed library."""
-        flags = "$(pkg-config --cflags --libs libfv)"
-        self.inside(
-            "sh",
-            "-e",
-            "-c",
-            f"cc -o /tmp/volumes /tmp/volumes.c {flags}; cc -o /tmp/archived /tmp/volumes.c -l:libfv.a",
-        )
-        for name in ("volumes", "archived"):
+        for name, flags in {"volumes": "$(pkg-config --cflags --libs libfv)", "archived": "-l:libfv.a"}.items():
+            self.inside("sh", "-e", "-c", f"cc -o /tmp/{name} /tmp/volumes.c {flags}")
             self.assertEqual(self.as_user(0, f"/tmp/{name}", "/tmp/flash"), WANTED)
         self.assertRegex(self.runs(0, "readelf", "-d", self.root / "tmp/volumes"), r"NEEDED.*libfv\.so\.")
         self.try_python("python3")
@@ -309,14 +278,11 @@ class Roots(ImageCase):
     def try_wheel(self, wheels: list[Path]) -> None:
         """Installs the wheel in a virtual environment, without the packages of the library, and tries it there."""
         self.install("python3-venv")
-        (self.root / "tmp/wheel").mkdir()
-        (self.root / "tmp/wheel").chmod(0o777)
-        for wheel in wheels:
-            shutil.copy(wheel, self.root / "tmp")
+        self.inside("mkdir", "-m", "777", "/tmp/wheel")
+        self.runs(0, "cp", *wheels, self.root / "tmp")
         self.as_user(0, "python3", "-m", "venv", "/tmp/wheel/venv")
-        self.as_user(
-            0, "/tmp/wheel/venv/bin/pip", "install", "--no-cache-dir", "--no-index", *(it.name for it in wheels)
-        )
+        pip = ("/tmp/wheel/venv/bin/pip", "install", "--no-cache-dir", "--no-index")
+        self.as_user(0, *pip, *(it.name for it in wheels))
         self.try_python("/tmp/wheel/venv/bin/python")
         self.tools_work("/tmp/wheel/venv/bin", "/tmp/made", "/tmp", *self.way, has_old_name=False)
         self.try_examples("/tmp/wheel/venv/bin")
@@ -333,16 +299,11 @@ class Roots(ImageCase):
             self.try_wheel(wheels)
         self.inside("apt-get", "purge", "--yes", "fvtool")
         self.assertFalse((self.root / "usr/share/fvtool").exists())
-        left = [
-            it
-            for it in owned
-            if it.startswith("/") and os.path.lexists(f"{self.root}{it}") and not Path(f"{self.root}{it}").is_dir()
-        ]
-        self.assertEqual(left, [])
+        paths = [self.root / it.removeprefix("/") for it in owned if it.startswith("/")]
+        self.assertEqual([it for it in paths if os.path.lexists(it) and not it.is_dir()], [])
 
     def try_static_program(self) -> None:
         """Runs the program that needs no C library, if there is one, where no package of a release is installed."""
         for program in release().glob("fvtool-*-linux-x86_64"):
-            shutil.copy(program, self.root / "usr/bin/fvtool")
-            (self.root / "usr/bin/fvtool").chmod(0o755)
+            self.runs(0, "install", "-m", "755", program, self.root / "usr/bin/fvtool")
             self.try_program()

@@ -1,4 +1,3 @@
-#!/usr/bin/env python3
 # SPDX-License-Identifier: BSD-2-Clause-Patent
 """Computes which definitions the headline rests on, and compares them with the lists in docs/PROVED.md of the files
 that a reviewer must read.
@@ -14,7 +13,7 @@ import re
 import sys
 from collections.abc import Set
 
-from tests.checks import ROOT, read, report
+from tests.checks import ROOT, read, report, section
 from tests.sources.definitions import Imports, Key, Place, Words
 
 HEADLINE = ("fv_canon", "Headline")
@@ -67,7 +66,7 @@ def main() -> int:
     # A mutual block contains several definitions, and is counted once.
     blocks = {(*key[:2], words.groups[key].text) for key in first}
     lines = sum(bool(line.strip()) for _, _, text in blocks for line in text.split("\n"))
-    passage = read("docs/PROVED.md").split("## Definitions to review")[1].split("\n## ")[0]
+    passage = section("docs/PROVED.md", "Definitions to review")
     headline, besides, types = re.split(r"Further\s+files|The\s+types", passage)
     said = [int(number) for number in re.findall(r"\d+", headline)[:3]]
     computed = [round(len(first), -1), round(lines, -2), len(files)]

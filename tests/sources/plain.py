@@ -1,4 +1,3 @@
-#!/usr/bin/env python3
 # SPDX-License-Identifier: BSD-2-Clause-Patent
 """Checks the words, sentences and widths of documents, comments of code, definitions and proofs, and the help of
 scripts (their docstrings and the texts of argparse).
@@ -26,24 +25,24 @@ from tests.checks import ROOT, found_by, read, report, scripts
 
 # Words to avoid, and what to write instead.
 WORDS = {
-    r"want of memory|memory is wanted": "out of memory, memory runs out",
-    r"behind(?! a pointer)": "after",
-    r"stands?": "is",
-    r"(?:is|are) told": "is reported",
-    r"aside": "except",
-    r"answers (?:the|a|an|its|which|what|where)": "returns",
-    r"answered": "returned",
-    r"nought": "zero",
-    r"handed": "passed",
-    r"(?:is|are) let go": "is dropped",
+    r"\b(?:want of memory|memory is wanted)\b": "write 'out of memory', 'memory runs out'",
+    r"\bbehind\b(?! a pointer)": "write 'after'",
+    r"\bstands?\b": "write 'is'",
+    r"\b(?:is|are) told\b": "write 'is reported'",
+    r"\baside\b": "write 'except'",
+    r"\banswers (?:the|a|an|its|which|what|where)\b": "write 'returns'",
+    r"\banswered\b": "write 'returned'",
+    r"\bnought\b": "write 'zero'",
+    r"\bhanded\b": "write 'passed'",
+    r"\b(?:is|are) let go\b": "write 'is dropped'",
 }
 # Words to avoid in documents only.
 WORDS_OF_DOCUMENTS = {
-    r"alone": "only, on its own",
-    r"but for": "except for",
-    r"tells?(?! \w+ apart)": "says, reports",
-    r"so many": "this many",
-    r"a front": "a first part",
+    r"\balone\b": "write 'only', 'on its own'",
+    r"\bbut for\b": "write 'except for'",
+    r"\btells?\b(?! \w+ apart)": "write 'says', 'reports'",
+    r"\bso many\b": "write 'this many'",
+    r"\ba front\b": "write 'a first part'",
 }
 # Sentences that have to be read twice, and what to do about them. A sentence begins at the head of a paragraph, or
 # after one of these signs.
@@ -92,11 +91,6 @@ class Paragraph:
         return self.lines[-1][0]
 
 
-def read_lines(path: str) -> list[str]:
-    """Returns the lines of a file."""
-    return read(path).split("\n")
-
-
 def paragraphs(lines: list[tuple[int, str | None]]) -> Iterator[Paragraph]:
     """Divides lines into paragraphs: at lines that are empty or None, before an item of a list, and at each row of a
     table."""
@@ -116,7 +110,7 @@ def paragraphs(lines: list[tuple[int, str | None]]) -> Iterator[Paragraph]:
 def of_document(path: str) -> Lines:
     """Returns the lines of a document, with None in place of code and examples."""
     is_code = False
-    for number, line in enumerate(read_lines(path), 1):
+    for number, line in enumerate(read(path).split("\n"), 1):
         is_fence = line.startswith("```")
         is_code ^= is_fence
         is_example = line.startswith("    ") and not re.match(r" +(?:[-*]|\d+\.) ", line)
@@ -125,9 +119,8 @@ def of_document(path: str) -> Lines:
 
 def of_comments(path: str) -> Lines:
     """Returns the comments of a file of code, definitions or proofs, with None in place of all other lines."""
-    for number, line in enumerate(read_lines(path), 1):
-        match = COMMENT.match(line)
-        yield number, match[1] if match else None
+    for number, line in enumerate(read(path).split("\n"), 1):
+        yield number, match[1] if (match := COMMENT.match(line)) else None
 
 
 def texts_of(tree: ast.AST) -> Iterator[tuple[int, str]]:
@@ -146,35 +139,21 @@ def texts_of(tree: ast.AST) -> Iterator[tuple[int, str]]:
 
 def of_script(path: str) -> Lines:
     """Returns the lines of a script's comments and help, with an empty line after each text."""
-    for first, text in texts_of(ast.parse("\n".join(read_lines(path)))):
+    for first, text in texts_of(ast.parse(read(path))):
         lines = text.split("\n")
         yield from ((first + number, line) for number, line in enumerate(lines))
         yield first + len(lines), None
 
 
-def hard_words(text: str, table: dict[str, str]) -> Iterator[tuple[int, str]]:
-    """Returns the places of words to avoid, with the words to use instead."""
-    for hard, plain in table.items():
-        for match in re.finditer(rf"\b(?:{hard})\b", text):
-            yield match.start(), f"'{match[0]}', not '{plain}'"
-
-
-def hard_sentences(path: str, text: str) -> Iterator[tuple[int, str]]:
-    """Returns the places of sentences that have to be read twice, with the way to mend them."""
-    for hard, advice in SENTENCES.items():
-        for match in re.finditer(hard, text):
-            around = text[match.start() : match.end() + 40].strip(".:;!? ")
-            if not any(path == place and around.startswith(words) for place, words in ALLOWED):
-                yield match.end() - 1, f"'{around}': {advice}"
-
-
-def stumbles(path: str, lines: list[tuple[int, str | None]], tables: list[dict[str, str]]) -> Iterator[str]:
-    """Returns the places to mend in the words and sentences of a file."""
+def stumbles(path: str, lines: list[tuple[int, str | None]], table: dict[str, str]) -> Iterator[str]:
+    """Returns the places to mend in the words and sentences of a file, with the way to mend them."""
     for paragraph in paragraphs(lines):
         text = paragraph.text()
-        found = [it for table in tables for it in hard_words(text, table)]
-        for place, advice in [*found, *hard_sentences(path, text)]:
-            yield f"{path}:{paragraph.line_at(place)}: {advice}"
+        for hard, advice in table.items():
+            for match in re.finditer(hard, text):
+                around = text[match.start() : match.end() + 40].strip(".:;!? ")
+                if not any(path == place and around.startswith(words) for place, words in ALLOWED):
+                    yield f"{path}:{paragraph.line_at(match.end() - 1)}: '{around}': {advice}"
 
 
 def wide(path: str, lines: list[tuple[int, str | None]]) -> Iterator[str]:
@@ -195,15 +174,16 @@ def main() -> int:
     # The scripts that a user runs or imports.
     helped = scripts("recipes/**/*", "python/**/*", "examples/*")
     wrong: list[str] = []
-    ways: tuple[tuple[list[str], Callable[[str], Lines], list[dict[str, str]]], ...] = (
-        (documents, of_document, [WORDS, WORDS_OF_DOCUMENTS]),
-        (sources, of_comments, [WORDS]),
-        (helped, of_script, []),
+    ways: tuple[tuple[list[str], Callable[[str], Lines], dict[str, str]], ...] = (
+        ([it for it in documents if it != "CONTRIBUTING.md"], of_document, WORDS | WORDS_OF_DOCUMENTS | SENTENCES),
+        (["CONTRIBUTING.md"], of_document, WORDS | SENTENCES),
+        (sources, of_comments, WORDS | SENTENCES),
+        (helped, of_script, SENTENCES),
     )
-    for paths, lines_of, tables in ways:
+    for paths, lines_of, table in ways:
         for path in paths:
             lines = list(lines_of(path))
-            wrong += [*stumbles(path, lines, tables[:1] if path == "CONTRIBUTING.md" else tables), *wide(path, lines)]
+            wrong += [*stumbles(path, lines, table), *wide(path, lines)]
     counts = f"{len(documents)} documents, comments of {len(sources)} files, help of {len(helped)} scripts"
     return report("plain", wrong, f"{counts}, {len(wrong)} places to mend")
 

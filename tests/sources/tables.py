@@ -1,4 +1,3 @@
-#!/usr/bin/env python3
 # SPDX-License-Identifier: BSD-2-Clause-Patent
 """Makes the parts of docs/MEANING.md and docs/CONTRACTS.md that repeat the comments of the sources.
 
@@ -165,23 +164,21 @@ def types(crate: str) -> dict[str, list[str]]:
 def contracts(crate: str, reach: Reach) -> str:
     """Returns the list of a crate's calls. Calls with little text share an item: the calls of a type, or of a file."""
     known = types(crate)
-    at: dict[str, int] = {}
-    items: list[list[str]] = []
+    items: dict[object, list[str]] = {}
     for call in calls(crate):
         text = "" if call.is_inner else promises(call, reach)
         key = call.owner or call.path
         name = f"{call.owner}::{call.name}" if call.owner else call.name
         if text and len(text) > SHORT:
-            items.append([f"`{name}`: {text}"])
+            items[call.path, call.start] = [f"`{name}`: {text}"]
         elif text:
-            if key not in at:
-                at[key] = len(items)
-                items.append([f"`{key}`: " + " ".join(known[key])] if key in known else [])
-            items[at[key]].append(f"`{call.name if key in known else name}`: {text}")
-    items += [[f"`{name}`: " + " ".join(said)] for name, said in known.items() if len(said) > 1 and name not in at]
+            items.setdefault(key, [f"`{key}`: " + " ".join(known[key])] if key in known else [])
+            items[key].append(f"`{call.name if key in known else name}`: {text}")
+    for name, said in known.items():
+        items.setdefault(name, [f"`{name}`: " + " ".join(said)] * (len(said) > 1))
     root = next(source.text for source in sources(crate) if source.module in ("lib", "main"))
     head = SPECIFICATION.sub("", " ".join(re.findall(r"(?m)^//! ?(.*)$", root)))
-    return "\n".join([f"\n## {crate}\n", wrapped(head), "", *(wrapped(" ".join(parts), "- ") for parts in items)])
+    return "\n".join([f"\n## {crate}\n", wrapped(head), "", *(wrapped(" ".join(parts), "- ") for parts in items.values() if parts)])
 
 
 def main() -> int:

@@ -4,7 +4,6 @@ as passed, and no process may be left. As a program, this module runs made check
 
 from __future__ import annotations
 
-import contextlib
 import os
 import re
 import shlex
@@ -16,7 +15,7 @@ from pathlib import Path
 
 from tests.checks import ROOT
 from tests.frame import RoomCase
-from tests.run import ALONE, Check, counted, differing, files, main
+from tests.run import ALONE, MADE, Check, counted, descendants, files, main
 
 
 def script(name: str, text: str, *words: str, kind: int = 0, after: tuple[str, ...] = ()) -> Check:
@@ -39,9 +38,10 @@ ENDING: tuple[tuple[str, int, list[str]], ...] = (
     ("mute", 77, ["mute: there is no tool"]),
     ("texts", 0, ["texts: 3 are right, and 0 skipped: none", "not skipped: none"]),
 )
-MADE = (
+CHECKS = (
     *(script(name, f'printf "%s\\n" "$@"; exit {status}', *lines) for name, status, lines in ENDING),
     Check("missing", "./there-is-no-such-command", 0, "has no command"),
+    Check("lacking", "true", 0, "needs a file", needs=("file",)),
     script("later", "true", after=("bad",)),
     script("latest", "true", after=("later",)),
     script("left", BESIDE, "left", "right"),
@@ -66,28 +66,31 @@ class Runs(RoomCase):
         """A check counts by its status, and each skipped thing by its line."""
         mypy = "not tried: idle: the types, no mypy (Debian: mypy)\n"
         parts = "not tried: partly: the shell, no zsh\nnot tried: partly: the page, no mandoc\n"
+        zsh = "not tried: badly: the shell, no zsh\n"
+        bad, late = "failed: bad\n", "failed: missing\nfailed: later\nfailed: latest\n"
         for status, lines, words in (
-            (0, "1 passed, 0 failed", "good"),
-            (0, "3 passed, 0 failed", "good texts other"),
-            (0, "2 passed, 0 failed", "--strict good texts"),
-            (1, "failed: bad\n1 passed, 1 failed", "good bad"),
+            (0, "3 passed, 0 failed", "--strict good texts other"),
+            (1, f"{bad}1 passed, 1 failed", "bad good"),
             (0, f"{parts}1 passed, 0 failed, 2 skipped", "partly"),
-            (0, f"{mypy}1 passed, 0 failed, 1 skipped", "good idle"),
             (0, "not tried: idlest: one, no a\nnot tried: idlest: two, no b\n0 passed, 0 failed, 2 skipped", "idlest"),
             (0, "not tried: mute: all of it, and it gives no reason\n1 passed, 0 failed, 1 skipped", "mute good"),
-            (1, "failed: badly\nnot tried: badly: the shell, no zsh\n1 passed, 1 failed, 1 skipped", "badly good"),
+            (0, "not tried: lacking: all of it, it is not built\n0 passed, 0 failed, 1 skipped", "lacking"),
             (1, f"{mypy}with --strict, nothing may be skipped\n1 passed, 0 failed, 1 skipped", "--strict good idle"),
-            (1, "failed: missing\n1 passed, 1 failed", "good missing"),
-            (1, "failed: bad\nfailed: later\nfailed: latest\n1 passed, 3 failed", "good latest later bad"),
-            (0, "1 passed, 0 failed", "later"),
-            (0, "2 passed, 0 failed", "left right"),
-            (0, "3 passed, 0 failed", "lone lonely good"),
+            (1, f"{bad}failed: badly\n{parts}{zsh}{mypy}2 passed, 2 failed, 4 skipped", "good partly bad badly idle"),
+            (1, f"{bad}{late}1 passed, 4 failed", "good latest later bad missing"),
+            (0, "6 passed, 0 failed", "later left right lone lonely good"),
         ):
             with self.subTest(words):
                 said = self.run_made(words)
                 summary = re.search(r"(?ms)^(failed: |not tried: |\d+ passed).*", said.stdout)
                 found = summary[0] if summary else ""
                 self.assertEqual((said.returncode, found), (status, f"{lines}\n"), said.stdout + said.stderr)
+
+    def test_bash(self) -> None:
+        """Checks in bash name what they skip."""
+        text = f"source {shlex.quote(str(ROOT))}/tests/skipping.bash; has_tool {{}} 'the page' 'a package'"
+        self.expect(0, "", "bash", "-c", text.format("bash"), "it")
+        self.expect(1, "it: skipped: the page, no none (Debian: a package)", "bash", "-c", text.format("none"), "it")
 
     def test_prove(self) -> None:
         """The counts of rt ci are added to the counts of the checks."""
@@ -135,25 +138,16 @@ class Runs(RoomCase):
     def test_interrupt(self) -> None:
         """After Ctrl-C and after a signal, no process and no folder is left."""
         for sign in (signal.SIGINT, signal.SIGTERM):
-            long = f"98765.{os.getpid()}"
-            env = {**os.environ, "LONG": long, "TMPDIR": str(self.room)}
+            env = {**os.environ, "LONG": "98765", "TMPDIR": str(self.room)}
             words = [sys.executable, "-m", "tests.sources.test_runner", "slow", "good"]
             with subprocess.Popen(words, env=env, stdout=subprocess.PIPE) as run:
-                while len(self.sleeping(long)) < 3 and run.poll() is None:
+                while len(found := descendants(run.pid)) < 4 and run.poll() is None:
                     time.sleep(0.05)
                 run.send_signal(sign)
                 said = run.communicate()[0]
             self.assertEqual((run.returncode, said.splitlines()[-1]), (130, b"interrupted"))
-            self.assertEqual(self.sleeping(long), [])
+            self.assertEqual([it for it in found if Path(f"/proc/{it}").exists()], [])
             self.assertEqual([*self.room.glob("checks-*")], [])
-
-    def sleeping(self, seconds: str) -> list[Path]:
-        """Returns the processes that sleep for this time."""
-        found = []
-        for path in Path("/proc").glob("[0-9]*/cmdline"):
-            with contextlib.suppress(OSError):
-                found += [path] * (path.read_bytes() == f"sleep\0{seconds}\0".encode())
-        return found
 
     def test_differing(self) -> None:
         """A file that is written, changed or removed is found, except a made file."""
@@ -167,8 +161,9 @@ class Runs(RoomCase):
         (folder / "mode").chmod(0o600)
         (folder / "new").symlink_to("kept")
         (folder / "out/made").write_text("made")
-        self.assertEqual(differing(before, files(folder)), ["changed", "mode", "new", "removed"])
+        self.assertEqual({it[0] for it in before ^ files(folder)}, {"changed", "mode", "new", "removed"})
 
 
 if __name__ == "__main__":
-    sys.exit(main(MADE))
+    MADE["file"] = ("no/file", "it is not built")
+    sys.exit(main(CHECKS, patience=0.5))

@@ -1,4 +1,3 @@
-#!/usr/bin/env python3
 # SPDX-License-Identifier: BSD-2-Clause-Patent
 """Checks where definitions are, and that the names, files and texts in documents exist.
 
@@ -21,8 +20,10 @@ import os
 import re
 import sys
 from dataclasses import dataclass
+from pathlib import Path
 
-from tests.checks import ROOT, found_by, read, report
+from tests.checks import ROOT, found_by, read, report, section
+from tests.install.pages import dead_links
 from tests.sources.definitions import DOOR, IMPORT, INNER, Words, door, roots
 
 PROOF_IMPORT = re.compile(
@@ -38,14 +39,6 @@ WRONG_BODIES = 25
 NAMED = re.compile(r"`((?:crates|specs|src|proofs|docs|libfv|man|python|recipes|rust|tests|tools)/[\w./+-]+)`")
 # The line that begins a function or a constant.
 ITEM = re.compile(r"(?m)^[ \t]*(?:pub(?:\([a-z]+\))? )?(?:const )?(?:extern \"C\" )?(?:fn|const) (\w+)")
-
-
-@dataclass(frozen=True)
-class Row:
-    """A row of a table: the heading above its table, and its cells."""
-
-    heading: str
-    cells: list[str]
 
 
 @dataclass(frozen=True)
@@ -87,16 +80,10 @@ def texts(pattern: str) -> dict[str, str]:
     return found
 
 
-def rows(path: str) -> list[Row]:
-    """Returns the rows of a document's tables of four columns, without their heads."""
-    found: list[Row] = []
-    heading, lines = "", read(path).split("\n")
-    for line, after in zip(lines, lines[1:]):
-        heading = line if line.startswith("## ") else heading
-        cells = [cell.strip() for cell in line.strip().strip("|").split("|")]
-        if line.startswith("|") and len(cells) == 4 and "|--" not in (line[:3], after[:3]):
-            found.append(Row(heading, cells))
-    return found
+def rows(text: str) -> list[list[str]]:
+    """Returns the cells of each row of a text's tables, without the heads of the tables."""
+    lines = re.findall(r"(?m)^\| .*\|$(?!\n\|--)", text)
+    return [[cell.strip() for cell in line.strip("|").split(" | ")] for line in lines]
 
 
 def named(cell: str) -> list[Item]:
@@ -152,14 +139,15 @@ def standard() -> list[str]:
     items that their row does not name."""
     code, definitions = texts("src/**/*.rt"), texts("specs/**/*.antt")
     wrong: list[str] = []
-    for row in rows("docs/STANDARD.md"):
-        rule, where, stated, guard = row.cells
+    parts = read("docs/STANDARD.md").split("\n## ")
+    for heading, row in ((part.partition("\n")[0], row) for part in parts for row in rows(part) if len(row) == 4):
+        rule, where, stated, guard = row
         items = named(where)
         pairs = [(code, item) for item in items] + [(definitions, item) for item in named(stated)]
         for place, item in pairs:
             if not re.search(rf"\b{item.name}\b", place.get(item.file, "")):
                 wrong.append(f"{item.file}: {item.name} is not there")
-        crates = re.findall(r"fv_\w+", " ".join((row.heading, where, stated, guard)))
+        crates = re.findall(r"fv_\w+", " ".join((heading, where, stated, guard)))
         guards = re.findall(r"`(\w+)`", guard)
         wrong += [f"{rule} has no edit"] * (not guards)
         for name in guards:
@@ -173,11 +161,10 @@ def standard() -> list[str]:
 def wrong_bodies() -> list[str]:
     """Returns the errors in STANDARD's table of wrong bodies that must never pass: too few rows, rows without a guard,
     and guards that do not exist."""
-    table = re.findall(r"(?m)^\| .* \|$", read("docs/STANDARD.md").split("\n## Wrong bodies")[1].split("\n## ")[0])[1:]
+    table = rows(section("docs/STANDARD.md", "Wrong bodies"))
     names = row_names()
     wrong = [f"STANDARD.md has {len(table)} wrong bodies, not {WRONG_BODIES}"] * (len(table) != WRONG_BODIES)
-    for row in table:
-        body, _, guard = [cell.strip() for cell in row.strip("|").split(" | ")]
+    for body, _, guard in table:
         edits = [(crate, name) for crate, name in re.findall(r"(fv_\w+) `(\w+)`", guard)]
         tests = re.findall(r"`([\w./-]+)`", re.sub(r"fv_\w+ `\w+`", "", guard))
         wrong += [f"{body}: no guard"] * (not edits and not tests)
@@ -199,23 +186,20 @@ def quotes() -> list[str]:
 
 def meanings() -> list[str]:
     """Returns the faults whose meaning in docs/FAULTS.md is not the text that the code writes."""
-    page = read("docs/FAULTS.md")
     wrong: list[str] = []
     for heading, cell, path in (
-        ("## What each fault means for you, and what to do", 1, "crates/fv_base/src/fault.rt"),
-        ("## Faults of hand-off lists", 3, "crates/fv_hob/src/fault.rt"),
+        ("What each fault means for you, and what to do", 1, "crates/fv_base/src/fault.rt"),
+        ("Faults of hand-off lists", 3, "crates/fv_hob/src/fault.rt"),
     ):
         code = re.sub(r"\\\n\s*", "", read(path))
         numbers = dict(re.findall(r"Kind::(\w+) => (\d+),", code))
         said = re.findall(r'Kind::(\w+) =>\s*\{?\s*"([^"]*)"', code)
         said += [(kind, text) for text, kind in re.findall(r'#\[error\("([^"]*)"\)\]\s*(\w+),', code)]
         written = {numbers.get(kind): text for kind, text in said}
-        tables = page.split(f"\n{heading}\n")[1].split("\n## ")[0]
-        cells = [line.strip("| ").split(" | ") for line in tables.split("\n") if re.match(r"\| \d", line)]
-        shown = {row[0]: row[cell] for row in cells}
+        shown = {row[0]: row[cell] for row in rows(section("docs/FAULTS.md", heading)) if row[0][0].isdigit()}
         differing = {number: text for number, text in shown.items() if written.get(number) != text}
-        wrong += [f"FAULTS.md, {heading[3:]}: {number}: {text}" for number, text in differing.items()]
-        wrong += [f"FAULTS.md, {heading[3:]}: no row of {number}" for number in written if number not in shown]
+        wrong += [f"FAULTS.md, {heading}: {number}: {text}" for number, text in differing.items()]
+        wrong += [f"FAULTS.md, {heading}: no row of {number}" for number in written if number not in shown]
     return wrong
 
 
@@ -225,8 +209,7 @@ def paths() -> list[str]:
     wrong: list[str] = []
     for document in found_by("*.md", "*/*.md", "rust/*/*.md", "tests/**/*.md"):
         text, beside = read(document), os.path.dirname(document)
-        linked = [os.path.join(beside, link) for link in re.findall(r"\]\(([\w./-]+)\)", text)]
-        wrong += [f"{document} has a link to {path}, which is not there" for path in linked if not os.path.exists(path)]
+        wrong += dead_links(Path(document), text)
         for path in NAMED.findall(text):
             any_part = re.sub(r"\b[A-Z]{2,}\b", "*", path)
             places = [any_part, os.path.join(beside, any_part), f"crates/*/{any_part}"]
