@@ -9,7 +9,9 @@
 
 Each line begins with the offset of its volume in the image. All other offsets count from the first byte of that volume.
 Headers, nodes and cells have the fields that they have in `fv`. A field that a part does not have is null in JSON, and
-is left out of a line of text. As text, a line of `tree` is indented by its depth, and leaves out the parent.
+is left out of a line of text. As JSON, a line of `tree` also has the number of its row, `row`, and a line of `digests`
+has `row`, `kind`, `efi_type`, `guid` and `sha256`. As text, a line of `tree` is indented by its depth, and leaves out
+the parent.
 
 A rejected volume has a single line, with its fault. If the image contains no volume, the only line is the fault of its
 first bytes.

@@ -8,7 +8,6 @@ import os
 import re
 import shutil
 import subprocess
-import unittest
 from pathlib import Path
 
 import rows
@@ -213,7 +212,3 @@ class Harness(RoomCase):
                 words = [self.room / "standalone-planted", *self.files]
                 said = self.run_command(*words, env={**SANITIZED, "PLANT": str(plant)})
                 self.assertRegex(said.stderr, "(?m)^finding: ")
-
-
-if __name__ == "__main__":
-    unittest.main()

@@ -5,7 +5,6 @@ from __future__ import annotations
 
 import itertools
 import subprocess
-import unittest
 
 import fv
 from tests.frame import PROGRAM, RoomCase, needs_library, needs_program
@@ -60,7 +59,3 @@ class Beside(RoomCase):
             for pair in {(first, second), (second, first)}:
                 with self.subTest(pair):
                     self.same(said.compare(*map(inputs.__getitem__, pair)), "compare", *pair)
-
-
-if __name__ == "__main__":
-    unittest.main()

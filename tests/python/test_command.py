@@ -10,7 +10,6 @@ import json
 import os
 import signal
 import sys
-import unittest
 import uuid
 from typing import Any
 
@@ -143,7 +142,3 @@ class Lines(RoomCase):
         closed = self.run_command(*COMMAND, "check", "named", capture_output=False, stdout=writer, stderr=-1)
         os.close(writer)
         self.assertEqual((closed.returncode, closed.stderr), (-signal.SIGPIPE, ""))
-
-
-if __name__ == "__main__":
-    unittest.main()

@@ -304,7 +304,3 @@ class Images(unittest.TestCase):
         self.assertEqual(Names().depex(expression), f"PUSH gPcdProtocolGuid PUSH {made.guid(1)} AND END")
         self.assertEqual(Names().depex(b"\2" + pcd[:15]), "PUSH")
         self.assertEqual(Names().depex(b"\xff"), "")
-
-
-if __name__ == "__main__":
-    unittest.main()

@@ -55,7 +55,3 @@ class Oldest(RoomCase):
         words = ("-std=c11", "-O1", "-static", f"-I{ROOT}/libfv/include", "-o", "fields", ROOT / "tests/libfv/fields.c")
         self.runs(0, os.environ.get("CC", "cc"), *words, LIBRARY.with_name("libfv.a"))
         self.runs(0, *OLDEST, self.room / "fields")
-
-
-if __name__ == "__main__":
-    unittest.main()

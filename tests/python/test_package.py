@@ -443,7 +443,3 @@ class Buffers(unittest.TestCase):
             for call in (*OF_VOLUME, *OF_IMAGE):
                 outcome(call, data)
             outcome(fv.volume_extract, data, 1)
-
-
-if __name__ == "__main__":
-    unittest.main()

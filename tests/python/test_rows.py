@@ -213,7 +213,3 @@ class Inputs(unittest.TestCase):
                 self.assertEqual(fv.volume_digest(data), digests[0])
                 for row in (len(nodes), -1, 2**64 - 1):
                     self.assertRaises(IndexError, fv.volume_extract, data, row)
-
-
-if __name__ == "__main__":
-    unittest.main()

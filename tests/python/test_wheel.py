@@ -156,7 +156,3 @@ class Wheel(RoomCase):
                 self.run_outside(name, "-c", run, "image", PYTHONPATH=str(self.unpacked))
         if missing:
             self.skipTest(f"not installed: {', '.join(missing)}")
-
-
-if __name__ == "__main__":
-    unittest.main()

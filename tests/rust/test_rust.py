@@ -251,7 +251,3 @@ class Crates(RoomCase):
         # In the way of docs.rs, where the library is missing.
         words = ("cargo", "doc", "--locked", "--workspace", "--no-deps")
         self.run_in_rust(*words, target="pages", DOCS_RS="1", LIBFV_DIR="/none", RUSTDOCFLAGS="-D warnings")
-
-
-if __name__ == "__main__":
-    unittest.main()
