@@ -2,8 +2,6 @@
 """The parts that the checks in Python share: the folder of the repository, its files, and the form of a report.
 tests/skipping.bash describes how a check names what it skips."""
 
-from __future__ import annotations
-
 import glob
 import os
 import re

@@ -12,8 +12,6 @@ that README names is installed. The examples of a document that runs fv-same or 
 built. This script reports the examples that it skips. A command with sudo is not run. In another root, the folder has
 only tests/making.py, and the commands come from the folder that --bin names."""
 
-from __future__ import annotations
-
 import argparse
 import glob
 import os

@@ -9,8 +9,6 @@ NAME is a module of the package without `test_`, a class or a test, as in `same`
 `same.Same.test_json`; `*` matches any text. The exit status is 0, or 1 if a test failed, or 77 if nothing was
 tried."""
 
-from __future__ import annotations
-
 import fnmatch
 import os
 import shutil

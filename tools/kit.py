@@ -2,8 +2,6 @@
 """Finds the Rattle kit, and imports its module for Python, which knows how a crate is checked and built. The scripts of
 this repository use that module only through this one."""
 
-from __future__ import annotations
-
 import functools
 import importlib
 import shutil

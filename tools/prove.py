@@ -19,8 +19,6 @@ The kit keeps the results of checking a crate for the next check. It then checks
 one process, and reads the kept results after each turn. The program has few functions, so this takes longer than it
 saves. Nothing is kept for the program."""
 
-from __future__ import annotations
-
 import concurrent.futures
 import hashlib
 import io

@@ -1,8 +1,6 @@
 # SPDX-License-Identifier: BSD-2-Clause-Patent
 """Writes or checks the files that repeat what one file of this repository says, for tools/version and tools/licence."""
 
-from __future__ import annotations
-
 import subprocess
 import sys
 from collections.abc import Iterable

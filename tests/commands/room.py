@@ -2,8 +2,6 @@
 """The parts that the tests of the commands share: a scratch folder with the made images, runs over a table of
 arguments, the index of a folder that fv-unpack writes, and EDK II's own tools."""
 
-from __future__ import annotations
-
 import csv
 import os
 import shutil

@@ -1,8 +1,6 @@
 # SPDX-License-Identifier: BSD-2-Clause-Patent
 """fv-archive over made images, and the figures of recipes/archive/README.md, which are measured again."""
 
-from __future__ import annotations
-
 import concurrent.futures
 import hashlib
 import shutil

@@ -2,8 +2,6 @@
 """fv-check: its lines for hostile names, files that cannot be read, and images above its limits; its files of answers;
 and its verdicts beside the program's."""
 
-from __future__ import annotations
-
 import os
 import re
 import resource

@@ -3,8 +3,6 @@
 another system, the jobs run there, by the commands that are installed there (tests/install/test_release.py, in new
 roots of Debian). TMPDIR is a folder in that root then."""
 
-from __future__ import annotations
-
 import itertools
 import os
 import unittest

@@ -2,8 +2,6 @@
 """The behaviour that all commands have in common: wrong arguments, help, names that are hard to write, inputs that are
 missing, outputs that are full, closed or a terminal, and runs that fail before they begin."""
 
-from __future__ import annotations
-
 import os
 import pty
 import shutil

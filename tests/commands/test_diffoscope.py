@@ -1,8 +1,6 @@
 # SPDX-License-Identifier: BSD-2-Clause-Patent
 """diffoscope-fv: what diffoscope shows of made images, if it is installed."""
 
-from __future__ import annotations
-
 import os
 import shutil
 import unittest

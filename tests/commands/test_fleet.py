@@ -8,8 +8,6 @@ By default there are 1,000 small images. With FLEET_IMAGES=10000 they are larger
 test then kills a machine, and waits until Slurm gives its task to the other machine, which takes three minutes. With
 FLEET_KILL=no nothing is killed, to measure."""
 
-from __future__ import annotations
-
 import contextlib
 import functools
 import getpass

@@ -1,8 +1,6 @@
 # SPDX-License-Identifier: BSD-2-Clause-Patent
 """fv-text and fv-diff: their lines for images, and what git shows by them in a throwaway repository."""
 
-from __future__ import annotations
-
 import os
 import re
 import shutil

@@ -4,8 +4,6 @@ its size, and nothing of the image is markup. If Chromium is installed, it opens
 in the opened page, the colours are in the drawn page, light and dark, and a window of 500 pixels is wide enough. If
 Debian's OVMF or AAVMF is installed, it is drawn too."""
 
-from __future__ import annotations
-
 import base64
 import hashlib
 import html

@@ -1,8 +1,6 @@
 # SPDX-License-Identifier: BSD-2-Clause-Patent
 """fv-same over made volumes and flash images, over Debian's images, and over volumes that EDK II's own tools make."""
 
-from __future__ import annotations
-
 import json
 import lzma
 import uuid

@@ -2,8 +2,6 @@
 """fv-sbom: the components of a bill of materials, which names the digests of the unpacked files. test_unpack.py checks
 for each of its images whether the bill is complete."""
 
-from __future__ import annotations
-
 import importlib.util
 import json
 import os

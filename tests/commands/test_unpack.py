@@ -2,8 +2,6 @@
 """fv-unpack over made firmware, over Debian's firmware, beside UEFIExtract, and over sections that EDK II's own tools
 compress. Each image is also given to fv-sbom, which says whether it was read whole."""
 
-from __future__ import annotations
-
 import contextlib
 import hashlib
 import io

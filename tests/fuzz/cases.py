@@ -2,8 +2,6 @@
 """Makes the inputs of fuzz.py and tools.py by their numbers: what makers write, and the same with changed bytes. Flash
 images and hand-off lists have the lines that `scan` and `hobs` write of them."""
 
-from __future__ import annotations
-
 import random
 import struct
 from collections.abc import Iterable, Sequence

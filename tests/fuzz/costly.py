@@ -1,8 +1,6 @@
 # SPDX-License-Identifier: BSD-2-Clause-Patent
 """Makes the inputs that are meant to be costly, over which costs.py runs commands."""
 
-from __future__ import annotations
-
 import importlib
 import lzma
 import random

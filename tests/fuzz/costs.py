@@ -18,8 +18,6 @@
                         volume of 128 bytes without files, a volume of large files, and a volume of files of 24 bytes.
                         The rows of a call are counted and not read."""
 
-from __future__ import annotations
-
 import argparse
 import math
 import multiprocessing

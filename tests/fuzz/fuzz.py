@@ -3,8 +3,6 @@
 them, and checks from outside whether it keeps the promises of docs/PROGRAM.md. README.md in this folder describes
 more."""
 
-from __future__ import annotations
-
 import argparse
 import collections
 import itertools

@@ -2,8 +2,6 @@
 """Writes random volumes by docs/FORMAT.md, with the lines that `list` writes of them: valid volumes, and volumes that
 break rules of the format. The expected lines come from what was written, and not from a reader."""
 
-from __future__ import annotations
-
 import itertools
 import random
 import struct

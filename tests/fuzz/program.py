@@ -1,8 +1,6 @@
 # SPDX-License-Identifier: BSD-2-Clause-Patent
 """Runs the built program for fuzz.py, and checks the form of each answer."""
 
-from __future__ import annotations
-
 import random
 import re
 import subprocess

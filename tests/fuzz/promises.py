@@ -2,8 +2,6 @@
 """The promises of docs/PROGRAM.md that fuzz.py checks: the answers of the program agree with what a maker wrote, and
 with one another. README.md lists the promises."""
 
-from __future__ import annotations
-
 import hashlib
 import itertools
 import re

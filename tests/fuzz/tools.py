@@ -16,8 +16,6 @@ CRC32, stored or of an unknown GUID. Of the packed data, some are changed. For e
 LIBFV names the library, which is libfv/out/libfv.so.2 if nothing is named. The exit status is 1 if there is a finding.
 The input of a finding is kept in tests/fuzz/out/."""
 
-from __future__ import annotations
-
 import argparse
 import itertools
 import os

@@ -4,8 +4,6 @@ packages, and the kit, which is read-only there. What an installed tool or modul
 copy has the program, the library and the tests that are built here. Without a command, runs `make check`, and shows its
 output only if it fails. It needs root, debootstrap and Debian's mirror, and is skipped without them."""
 
-from __future__ import annotations
-
 import argparse
 import os
 import shutil

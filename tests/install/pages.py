@@ -6,8 +6,6 @@
 - A folder or file below the folders of the installation that a page or a manual page names is there.
 - A manual page names no file of this repository."""
 
-from __future__ import annotations
-
 import re
 from collections.abc import Iterable, Iterator
 from pathlib import Path

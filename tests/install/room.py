@@ -2,8 +2,6 @@
 """The parts that the tests of installed files share: a copy of the repository, images, and tests of installed
 commands."""
 
-from __future__ import annotations
-
 import os
 import shutil
 import subprocess

@@ -3,8 +3,6 @@
 files: the program, the commands, the manual pages, completion in bash and zsh, the driver for git, and programs in C,
 Python and Rust over the library, which pkg-config and CMake find. Uninstalls, and checks that no file is left."""
 
-from __future__ import annotations
-
 import filecmp
 import os
 import re

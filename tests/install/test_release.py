@@ -3,8 +3,6 @@
 packages and the wheel in new roots of Debian. With the variable RELEASE, the roots get the files of that folder, which
 `make release` has made."""
 
-from __future__ import annotations
-
 import functools
 import os
 import shutil

@@ -2,8 +2,6 @@
 """The inputs of the tests of the library: the bytes that rows of crates/fv_run_tests/rows spell, inputs that
 tests/fuzz/cases.py makes, and texts that are nearly a GUID."""
 
-from __future__ import annotations
-
 from collections.abc import Iterator
 from pathlib import Path
 

@@ -2,8 +2,6 @@
 """Tests of libfv in C and C++: its header, its calls, its examples, and the checks of the fuzzer (tests/fuzz/libfv)
 over made inputs. CC and CXX name the compilers."""
 
-from __future__ import annotations
-
 import os
 import re
 import shutil

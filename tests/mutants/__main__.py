@@ -59,8 +59,6 @@ that have edits, or removed answers of theirs: it writes the lines of the reject
 The last line shows how many edits failed. The exit status is 0 if every edit was rejected at its goal, 1 if an edit
 failed, and 2 if no edit was tried because an argument is wrong or a library is not built."""
 
-from __future__ import annotations
-
 import argparse
 import collections
 import concurrent.futures

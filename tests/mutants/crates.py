@@ -2,8 +2,6 @@
 """A crate whose edits are tried in a copy, the checks of this copy, and the report of a check: the goals that it leaves
 open, and its verdicts on functions."""
 
-from __future__ import annotations
-
 import dataclasses
 import hashlib
 import os

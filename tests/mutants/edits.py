@@ -2,8 +2,6 @@
 """Wrong bodies: edits of sources, the functions and the copies of functions that they change, their grades, and what is
 kept of them for the next run."""
 
-from __future__ import annotations
-
 import dataclasses
 import hashlib
 import json

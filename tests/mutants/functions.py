@@ -1,8 +1,6 @@
 # SPDX-License-Identifier: BSD-2-Clause-Patent
 """The functions of a source in Rattle: where they are, and by which names the checker knows them."""
 
-from __future__ import annotations
-
 import dataclasses
 import re
 

@@ -1,8 +1,6 @@
 # SPDX-License-Identifier: BSD-2-Clause-Patent
 """Tries the edits of a crate in groups, and grades them by the reports of the checks."""
 
-from __future__ import annotations
-
 import collections
 
 from tests.mutants.crates import Crate, Report

@@ -1,8 +1,6 @@
 # SPDX-License-Identifier: BSD-2-Clause-Patent
 """The declarations of proof files: answers of goals, and lemmas."""
 
-from __future__ import annotations
-
 import dataclasses
 import itertools
 import re

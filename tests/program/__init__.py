@@ -1,8 +1,6 @@
 # SPDX-License-Identifier: BSD-2-Clause-Patent
 """The tests of the built program."""
 
-from __future__ import annotations
-
 import os
 import subprocess
 from pathlib import Path

@@ -5,8 +5,6 @@ bytes that the program holds for a volume of many small files. Then runs the tes
 in the crates of tests: only the call whose allocation is refused may return OutOfMemory, and every other result has to
 be right. No call may ask again for memory that it was refused."""
 
-from __future__ import annotations
-
 import itertools
 import re
 import resource

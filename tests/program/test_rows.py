@@ -12,8 +12,6 @@ also makes these runs by calls of the library.
 
 The number of rows has to be ROWS, so that no row gets lost unnoticed."""
 
-from __future__ import annotations
-
 import collections
 import concurrent.futures
 import itertools

@@ -4,8 +4,6 @@ Then runs it with a terminal, a pipe and a file as standard error, and checks th
 forms of the command line after wrong arguments, and messages about runs that end well. Standard output and the status
 are the same in all three cases, and if standard error takes nothing."""
 
-from __future__ import annotations
-
 import contextlib
 import os
 import pty

@@ -1,8 +1,6 @@
 # SPDX-License-Identifier: BSD-2-Clause-Patent
 """What the tests of the package for Python share: the outcomes of calls, and the inputs."""
 
-from __future__ import annotations
-
 import functools
 import uuid
 from collections.abc import Callable

@@ -5,8 +5,6 @@
 
 prints them for each FILE, with digits in place of bytes."""
 
-from __future__ import annotations
-
 import collections
 import itertools
 import sys

@@ -1,8 +1,6 @@
 # SPDX-License-Identifier: BSD-2-Clause-Patent
 """The program and the package: each command writes what the calls return, for made inputs."""
 
-from __future__ import annotations
-
 import itertools
 import subprocess
 

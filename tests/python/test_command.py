@@ -2,8 +2,6 @@
 """`python3 -m fv`: its lines have what the package's calls return, as text and as JSON. The tests use an installed
 package, or the package that PYTHONPATH names."""
 
-from __future__ import annotations
-
 import dataclasses
 import enum
 import json

@@ -2,8 +2,6 @@
 """`fv.images` over made images: volumes at every level, compressed sections, volumes with fixed files, volumes at odd
 places, bytes that are not read, and the limits of reading."""
 
-from __future__ import annotations
-
 import lzma
 import struct
 import sys

@@ -2,8 +2,6 @@
 """The library on the oldest processor: it has no instruction that the first x86-64 processors lack, and it returns the
 same on such a processor, which qemu emulates, as on this one."""
 
-from __future__ import annotations
-
 import os
 import platform
 import re

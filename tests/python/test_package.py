@@ -2,8 +2,6 @@
 """The rules of the package for Python: its names, its exceptions, its values, its arguments, and the library that it
 loads. The tests use an installed package, or the package that PYTHONPATH names."""
 
-from __future__ import annotations
-
 import concurrent.futures
 import copy
 import ctypes

@@ -4,8 +4,6 @@ made inputs. The runs of tests/program/test_rows.py are made by the calls too (s
 then replaced by every other value. (The checks of tests/fuzz/libfv compare the rows of trees, cells and images with
 their bytes, and the calls with each other.)"""
 
-from __future__ import annotations
-
 import hashlib
 import unittest
 import uuid

@@ -3,8 +3,6 @@
 installed by pip into a new environment, without network, and tests are run there over the library of the wheel. The
 wheel is also loaded by every other Python 3.10 or later."""
 
-from __future__ import annotations
-
 import os
 import platform
 import re

@@ -2,8 +2,6 @@
 """The crates of the folder rust: their tests, the examples of their documentation, how they find the library, their
 packages, and the results of their calls beside those of the package for Python."""
 
-from __future__ import annotations
-
 import dataclasses
 import enum
 import itertools

@@ -2,8 +2,6 @@
 """Reads the definitions of specs/ and the contracts of src/, with their comments, and finds the definitions that the
 contracts reach."""
 
-from __future__ import annotations
-
 import functools
 import glob
 import os

@@ -12,8 +12,6 @@ scripts (their docstrings and the texts of argparse).
 Words and sentences are not checked in code, in examples, in quoted texts, and in names that are in backticks or between
 asterisks (names of functions, definitions and clauses). CONTRIBUTING.md explains the style."""
 
-from __future__ import annotations
-
 import ast
 import os
 import re

@@ -4,8 +4,6 @@ Python by one run of `mypy --strict` (Debian: mypy). `shell` checks all shell sc
 shellcheck), and checks that a script that reads what `cd` writes unsets CDPATH first: `cd` writes the name of the
 folder if that variable is set. Each check is skipped if its tool is not installed."""
 
-from __future__ import annotations
-
 import os
 import re
 import shutil

@@ -7,8 +7,6 @@ cell has room for. In CONTRACTS.md each crate has a list of its public calls: th
 its clauses, its errors, and the definitions that its contract cites. With `--write` this script writes the parts.
 Otherwise it fails if a part differs."""
 
-from __future__ import annotations
-
 import argparse
 import os
 import re

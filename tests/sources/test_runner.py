@@ -2,8 +2,6 @@
 """Tests tests/run.py with made checks, which pass, fail, skip a part, and try nothing. A skipped thing must never count
 as passed, and no process may be left. As a program, this module runs made checks as tests/run.py runs its checks."""
 
-from __future__ import annotations
-
 import os
 import re
 import shlex

@@ -13,8 +13,6 @@
 - The files that documents name exist, and the texts that docs/LIBRARY.md quotes from a file are in that file.
 - The meanings of faults in docs/FAULTS.md are the texts that the code writes."""
 
-from __future__ import annotations
-
 import glob
 import os
 import re

@@ -5,8 +5,6 @@ describes. FOLDER/seeds gets volumes, flash images, hand-off lists and expressio
 from which the mutator takes files and volumes. FOLDER/few gets empty volumes and an expression of two ops. From
 these the mutator has to reach the planted faults."""
 
-from __future__ import annotations
-
 import argparse
 import random
 from collections.abc import Iterator
