@@ -49,9 +49,10 @@ class ImageCase(RoomCase):
         for name, data in ({name: make() for name, make in making.IMAGES.items()} | cls.images()).items():
             (cls.room / name).write_bytes(data)
 
-    def run_command(self, *words: str | Path, **more: Any) -> subprocess.CompletedProcess[str]:
+    @staticmethod
+    def run_command(*words: str | Path, **more: Any) -> subprocess.CompletedProcess[str]:
         """Runs a command with the library of the tests, also for scripts that import the package."""
-        return super().run_command(*words, **{**more, "env": {"LIBFV": str(LIBRARY), **more.get("env", {})}})
+        return RoomCase.run_command(*words, **{**more, "env": {"LIBFV": str(LIBRARY), **more.get("env", {})}})
 
     def output(self, status: int, *words: str | Path, **more: Any) -> bytes:
         """Runs a command and checks its status, as `runs`. Returns what it writes as bytes."""
