@@ -3,6 +3,7 @@
 packages and the wheel in new roots of Debian. With the variable RELEASE, the roots get the files of that folder, which
 `make release` has made."""
 
+import atexit
 import functools
 import os
 import shutil
@@ -21,7 +22,7 @@ from tests.rust.test_rust import is_new
 
 GIVEN = os.environ.get("RELEASE", "")
 FOLDER = Path(tempfile.mkdtemp())
-unittest.addModuleCleanup(shutil.rmtree, FOLDER)
+atexit.register(shutil.rmtree, FOLDER, ignore_errors=True)
 PACKAGES = ("fvtool", f"libfv{MAJOR}", "libfv-dev", "python3-fv")
 LIBRARY_PACKAGES = PACKAGES[1:]
 INSTALL = ("apt-get", "install", "--yes", "--no-install-recommends")
