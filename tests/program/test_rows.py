@@ -30,7 +30,7 @@ from tests.checks import ROOT, read
 from tests.frame import PROGRAM, needs_program
 
 # The number of rows in all files, and the files, by their names and headings.
-ROWS = 1097
+ROWS = 1101
 FILES = {path.stem: rows.tables(path.stem) for path in sorted(rows.FOLDER.glob("*.rows"))}
 # The files whose rows describe runs of a command.
 RUNS = ["normalise", "extract", "scan", "hobs", "list", "sums", "check", "cells", "unfix", "compare", "placed", "text"]
