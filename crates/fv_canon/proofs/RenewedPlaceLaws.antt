@@ -20,7 +20,7 @@ use Rattle.fv_canon.proofs.HeadlineLaws.{image_keeps_length_and_meaning}
 use Rattle.fv_canon.proofs.CanonicalHeaderLaws.{CanonicalFront, begins_again, front_kept, front_shown, no_header, reach_of, reads_less}
 use Rattle.fv_canon.proofs.SameRenewedLaws.{HasOwnImageAt, image_at, one_image_length, same_back, same_forth}
 
--- ---- 1. what is the same in the renewed image
+-- ---- 1. the bytes that a renewed image keeps
 
 -- from an offset on, these are the places of the volumes of a, r has their canonical images, and every byte outside them
 -- is the same in r as in a

@@ -1,14 +1,14 @@
 -- Two flash images with volumes at the same places have the same renewed image exactly if the volumes mean the same and
 -- the bytes outside them are the same. The steps:
--- 1. A canonical image at a place of a renewed image is read there as a volume of its own length (`image_at`,
---    `image_length`).
+-- 1. A canonical image at a place of a renewed image is a volume of its own length there (`image_at`,
+--    `volume_there`).
 -- 2. So if two images with volumes at the same places have one renewed image, their volumes have the same lengths and
 --    the same meanings, and their other bytes are the same (`same_back`).
 -- 3. If the volumes of two images mean the same, and their other bytes are the same, a renewed image of one is a renewed
 --    image of the other (`same_renewed`).
 use Rattle.std.proofs.Common.{◌≡◌, ◌≤◌, ◌+◌, ℕ, [], ◌∷◌, List, length, drop, refl, sym, ◌∙◌, subst, arith}
 use Rattle.fv_base.proofs.Laws.{AllByRecursion, All-contains, All-from_recursion, field, length-drop}
-use Rattle.fv_flash.specs.Words.{Found, IsCovered, VolumeAt}
+use Rattle.fv_flash.specs.Words.{IsCovered, VolumeAt}
 use Rattle.fv_flash.proofs.Laws.{at_within, one_found, one_length}
 use Rattle.fv_head.specs.Words.{BeginsVolume}
 use Rattle.fv_head.specs.declared.extent.Extent.{Extent}
@@ -20,13 +20,12 @@ use Rattle.fv_canon.proofs.FlashImageLaws.{normalised_one}
 
 -- ---- 1. a canonical image in a renewed image
 
--- at the offset p of r a volume of n bytes begins, which has the meaning m, and its bytes are the canonical image of m
+-- at the offset p of r, a volume of n bytes begins that has the meaning m, and its bytes are the canonical image of m
 pub record HasOwnImageAt (r : List ℕ) (p n : ℕ) (m : Meaning) : Type 0 where
   pub extent : Extent
   pub begins : BeginsVolume (head_of m) extent (drop p r)
   pub length_is : extent.length ≡ n
   pub within : p + n ≤ length r
-  pub read : Accepted (field p n r) m
   pub image : IsImage m (field p n r)
 
 pub image_at : (a r : List ℕ) (p n : ℕ) → length r ≡ length a → VolumeAt a p n → (to : NormalisesTo (field p n a) (field p n r))
@@ -40,7 +39,6 @@ image_at a r p n long v (m, d, is) =
       begins = front.0;
       length_is = front.1;
       within = omega (arith, inside, long);
-      read = k;
       image = is;
     }
 
@@ -71,13 +69,8 @@ covered_first a b ps k all (p, i, has, w, low, high) =
     let (n, v, w', mean) = All-contains (MeanSameAt a b) ps p (All-from_recursion (MeanSameAt a b) ps all) has in
     (p, n, has, v, low, omega (arith, one_length b p i n w w', high))
 
-covered_second : (a b ps : List ℕ) (k : ℕ) → AllByRecursion (MeanSameAt a b) ps → IsCovered a ps k → IsCovered b ps k
-covered_second a b ps k all (p, i, has, w, low, high) =
-    let (n, v, w', mean) = All-contains (MeanSameAt a b) ps p (All-from_recursion (MeanSameAt a b) ps all) has in
-    (p, n, has, w', low, omega (arith, one_length a p i n w v, high))
-
--- if two images have one renewed image, and volumes at the same places, they are the same but for bytes that have no
--- meaning
+-- if two images have one renewed image, and volumes at the same places, they are the same except for bytes of volumes
+-- that have no meaning
 pub same_back : (a b r places : List ℕ) → NormalisesEach a places r → NormalisesEach b places r → MeanSameEach a b places
 same_back a b r places first second =
     let long : length a ≡ length b = sym first.length_is ∙ second.length_is in
@@ -108,19 +101,9 @@ same_renewed a b r places same second = record {
       second.others k (omega (arith, less, same.length_is)) (λ c. none (covered_first a b places k same.volumes c)) ∙ sym (same.others k less none);
 }
 
--- if two images are the same but for bytes that have no meaning, their renewed images are equal
+-- if two images are the same except for bytes of volumes that have no meaning, their renewed images are equal
 pub same_forth : (a b renewed other : List ℕ) → NormalisesAll a renewed → NormalisesAll b other → MeanSameAll a b → renewed ≡ other
 same_forth a b renewed other first (short, places', found', second) (places, found, found'', same) =
     let at : places' ≡ places = one_found b places' places found' found'' in
     let each = subst (λ (ps : List ℕ). NormalisesEach b ps other) at second in
     normalised_one a renewed other first (omega (arith, short, same.length_is), places, found, same_renewed a b other places same each)
-
--- ---- the law, if the places are the same
-
--- if two images have volumes at the same places, and one renewed image, they are the same but for bytes that have no
--- meaning
-pub same_places_back : (a b renewed places : List ℕ) → Found a places → Found b places → NormalisesAll a renewed → NormalisesAll b renewed
-    → MeanSameEach a b places
-same_places_back a b r places found found' (short, ps, is, first) (short', qs, is', second) =
-    same_back a b r places (subst (λ (xs : List ℕ). NormalisesEach a xs r) (one_found a ps places is found) first)
-    (subst (λ (xs : List ℕ). NormalisesEach b xs r) (one_found b qs places is' found') second)
