@@ -22,8 +22,8 @@ pub record MeanSameEach (a b places : List ℕ) : Type 0 where
 abbrev pub MeanSameAll : List ℕ → List ℕ → Type 0
 MeanSameAll a b = (places : List ℕ) × Found a places × Found b places × MeanSameEach a b places
 
--- two flash images have the same renewed image exactly if the same offsets are found in them, the volumes there have
--- the same lengths and meanings, and the bytes outside these volumes are the same
+-- two flash images have the same renewed image exactly if volumes are found in them at the same offsets, with the same
+-- lengths and meanings, and the bytes outside these volumes are the same
 abbrev pub MeanSameAllIffSameRenewedImage : Type 0
 MeanSameAllIffSameRenewedImage =
     (a b renewed other : List ℕ) → IsBytes a → IsBytes b → NormalisesAll a renewed → NormalisesAll b other

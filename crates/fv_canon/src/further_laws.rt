@@ -120,8 +120,8 @@ pub fn renewed_images_stay()
 
 /// Two flash images have the same renewed image exactly if volumes of the same lengths and with the
 /// same meanings are found in them at the same offsets, and every byte outside these volumes is the
-/// same. So comparing the results of `normalise --all` byte by byte compares everything but the
-/// bytes of volumes that have no meaning.
+/// same. So two results of `normalise --all` differ exactly if the images differ in something other
+/// than bytes of their volumes that have no meaning.
 pub fn equal_renewed_images()
     ensures { MeanSameAllIffSameRenewedImage }
 {}
