@@ -22,7 +22,7 @@ use Rattle.fv_canon.proofs.PositionLaws.{rest_at, unless_apart}
 -- ---- bytes
 
 -- a byte at or after the offset `from` is a byte of a field that begins there
-field_at : (b : List ℕ) (from n k : ℕ) → from ≤ k → k < from + n → get_or (field from n b) (k - from) 0 ≡ get_or b k 0
+pub field_at : (b : List ℕ) (from n k : ℕ) → from ≤ k → k < from + n → get_or (field from n b) (k - from) 0 ≡ get_or b k 0
 field_at b from n k low high = get_or-take n (drop from b) (k - from) 0 (omega (arith, low, high)) ∙ rest_at b from k low
 
 -- the middle one of three joined lists is a field

@@ -73,7 +73,7 @@ same_reading a b m k d e =
 -- ---- the headline
 
 -- the image of a meaning that some bytes have is a volume of this meaning
-image_read : (m : Meaning) (a image : List ℕ) → Accepted a m → IsImage m image → Accepted image m
+pub image_read : (m : Meaning) (a image : List ℕ) → Accepted a m → IsImage m image → Accepted image m
 image_read m a image (small, means) is = let again = image_denotes 8 m a image small means is in (again.1, again.0)
 
 pub same_meaning_iff_same_image : SameMeaningIffSameImage

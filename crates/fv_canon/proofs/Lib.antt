@@ -1,5 +1,6 @@
 pub mod AlignedLaws
 pub mod BytesLaws
+pub mod CanonicalHeaderLaws
 pub mod CellLaws
 pub mod CurrentFileLaws
 pub mod DataBodyLaws
@@ -28,7 +29,9 @@ pub mod PlacedBytesLaws
 pub mod PositionLaws
 pub mod ReadLaws
 pub mod RejectedInputLaws
+pub mod RenewedPlaceLaws
 pub mod RenewedStaysLaws
+pub mod SameRenewedLaws
 pub mod StoredTilingLaws
 pub mod StreamImageLaws
 pub mod SumRightLaws

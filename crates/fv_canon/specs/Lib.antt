@@ -9,6 +9,7 @@ pub mod LayoutFaults
 pub mod ImageRules
 pub mod LayoutForms
 pub mod FlashImages
+pub mod RenewedImages
 pub mod ImageChecks
 pub mod NormaliseRuns
 pub mod PartDigests

@@ -16,6 +16,7 @@ pub use Rattle.fv_canon.specs.ImageRules.{painted, InOrder, PadsRule, OneImage, 
 pub use Rattle.fv_canon.specs.LayoutForms.{AreLeast, StartsOfEach, AreAllStarts, BeginsWithStarts, AreAllLeastStarts, LayoutParts, IsLayout}
 pub use Rattle.fv_canon.specs.FlashImages.{IsNormalisedAt, NormalisesEach, NormalisesAll, HasImageAt, RejectedAt, FirstRejected}
 pub use Rattle.fv_canon.specs.FlashImages.{RejectsAll, IsLaid, volume_starts, AreLaid, IsLaidOut}
+pub use Rattle.fv_canon.specs.RenewedImages.{MeanSameAt, MeanSameEach, MeanSameAll, MeanSameAllIffSameRenewedImage}
 pub use Rattle.fv_canon.specs.ImageChecks.{IsOtherThanImage, HasOutcome, IsChecked, AreChecked, ChecksImage, IsAboveLimit}
 pub use Rattle.fv_canon.specs.ImageChecks.{AreCanonical, CanonicalImagesStay}
 pub use Rattle.fv_canon.specs.NormaliseRuns.{NormalisingStops, RunWrites, RunStops}

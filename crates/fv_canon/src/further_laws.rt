@@ -8,6 +8,7 @@ ghost use Rattle.fv_base.specs.Words.{IsBytes, volume_limit};
 ghost use Rattle.fv_flash.specs.Words.{Found};
 ghost use Rattle.fv_canon.specs.FlashImages.{NormalisesAll, RejectsAll};
 ghost use Rattle.fv_canon.specs.Headline.{MeanSame, NormalisesTo};
+ghost use Rattle.fv_canon.specs.RenewedImages.{MeanSameAllIffSameRenewedImage};
 ghost use Rattle.fv_canon.specs.ImageRules.{OneImage, OneMeaning, InOrder, painted, PadsRule};
 ghost use Rattle.fv_canon.specs.ImageChecks.{CanonicalImagesStay};
 ghost use Rattle.fv_canon.specs.InputRejections.{OnlyWhatDoesNotFitIsRejected, Rejects, WhatDoesNotFitIsRejected};
@@ -115,4 +116,12 @@ pub fn every_image()
 pub fn renewed_images_stay()
     ensures { (b renewed places : List ℕ)
         → NormalisesAll b renewed → Found b places → Found renewed places → NormalisesAll renewed renewed }
+{}
+
+/// Two flash images have the same renewed image exactly if volumes of the same lengths and with the
+/// same meanings are found in them at the same offsets, and every byte outside these volumes is the
+/// same. So two results of `normalise --all` differ exactly if the images differ in something other
+/// than bytes of their volumes that have no meaning.
+pub fn equal_renewed_images()
+    ensures { MeanSameAllIffSameRenewedImage }
 {}
