@@ -27,6 +27,7 @@ pub mod PartLengthLaws
 pub mod PlacedBytesLaws
 pub mod PositionLaws
 pub mod ReadLaws
+pub mod ReadingSteps
 pub mod RejectedInputLaws
 pub mod RenewedStaysLaws
 pub mod StoredTilingLaws

@@ -12,5 +12,6 @@ pub mod FlashImages
 pub mod ImageChecks
 pub mod NormaliseRuns
 pub mod PartDigests
+pub mod WorkedInputs
 pub mod Words
 pub mod inner
