@@ -5,22 +5,28 @@
 use Rattle.std.proofs.Common.{◌≡◌, ◌≤◌, ◌<◌, ◌%◌, ◌&&◌, ℕ, ◌+◌, ◌-◌, zero, suc, [], ◌∷◌, List, length, take, drop, refl, sym, ap, ◌∙◌, subst, arith, inl, inr}
 use Rattle.fv_base.proofs.Laws.{true, false, Bool, nat_lt, Option, None, Some, Ok, Err, AllByRecursion, append-nil, length-drop, length-take-le, take-append-drop}
 use Rattle.fv_base.proofs.Laws.{First, IsBytes, depth_limit, outer_fault, erased_byte, all_are, all_are-true, all-all_are, bytes_cons, first_is, and_split, ltb-true}
-use Rattle.fv_base.proofs.Laws.{common_steps, up_is_not_down, field, le_at}
+use Rattle.fv_base.proofs.Laws.{up_is_not_down, field, le_at, slice_index, take_all}
 use Rattle.fv_base.specs.declared.fault.Fault.{Fault}
 use Rattle.fv_base.specs.declared.fault.FaultKind.{FaultKind}
+use Rattle.fv_base.specs.declared.fault.Place.{Place}
 use Rattle.fv_base.specs.declared.flash.FileSystem.{FileSystem}
 use Rattle.fv_base.specs.declared.flash.Polarity.{Polarity}
 use Rattle.fv_base.specs.inner.Verdicts.{first_fault}
+use Rattle.fv_base.specs.declared.fault.FaultKind.TheVariants as kinds
 use Rattle.std.specs.List.{list_all}
 use Rattle.std.specs.Option.{is_none}
-use Rattle.fv_file.specs.Words.{CellForm, Free, Tiles, cell_len, cell_checks, state_at, state_of}
+use Rattle.fv_file.specs.Words.{CellForm, Free, Tiles, cell_len, cell_checks, head_in, payload_at, state_at, state_of}
+use Rattle.fv_file.specs.declared.state.FileState.TheVariants.{DataValid}
 use Rattle.fv_file.specs.inner.CellVerdicts.{cell_in}
 use Rattle.fv_file.proofs.CellFoundLemmas.{cell_stands}
-use Rattle.fv_head.specs.Words.{extent_of, head_checks}
+use Rattle.fv_head.specs.Words.{HeadFields, HasExt, extent_of, head_checks, header_len_of, pairs_of, volume_len_at}
 use Rattle.fv_head.specs.declared.extent.Extent.{Extent}
 use Rattle.fv_head.specs.inner.HeadVerdicts.{head_verdict}
 use Rattle.fv_head.proofs.HeadCheckLemmas.{front_found}
-use Rattle.fv_tree.specs.Words.{BodyFault, InStream, moved_fault, outermost}
+use Rattle.fv_head.proofs.HeadPlaceLemmas.{kept_fields}
+use Rattle.fv_section.specs.Words.{FrameForm, BeginsFrame}
+use Rattle.fv_tree.specs.Words.{BodyFault, FileForm, InSection, InStream, NamesFault, NoStoredTwins, TopAtEnd, body_at, current_in, data_at, files_in}
+use Rattle.fv_tree.specs.Words.{group_kind, holds_sections, moved_fault, outermost, Accepted, FileMeanings, MeansFile, Pairwise, Stream, Volume, files_list}
 use Rattle.fv_tree.proofs.WholeInputLaws.{first_rejects}
 use Rattle.fv_canon.specs.Words.{Rejects, head}
 
@@ -43,9 +49,9 @@ header_rejects b kind at is = inl (first_rejects b _ (inl (_, first_is (head_che
 
 -- ---- the body
 
--- the extent of a volume of 128 bytes without an extended header
-abbrev pub extent : Extent
-extent = extent_of (head 128 None) 72
+-- the extent of a volume of n bytes without an extended header
+abbrev pub extent : ℕ → Extent
+extent n = extent_of (head n None) 72
 
 pub body_rejects : (b : List ℕ) (x : Extent) (e : Fault) → list_all (λ x. nat_lt x 256) b ≡ true → head_verdict b ≡ Ok x
     → BodyFault First depth_limit (InStream First depth_limit) x e (take x.length b) outermost → Rejects b e
@@ -104,3 +110,101 @@ tiled (suc n) s p at r eighths h =
     let rest = tiled n s p (at + len) (drop len r) (omega (arith, length-drop len r, eighths, stands.multiple, stands.within)) both.1 in
     (take len r, drop len r, sym (take-append-drop len r), stands.cell, stands.place, λ free. absurd (up_is_not_down _ free stands.not_free),
     subst (λ (k : ℕ). Tiles s p (at + k) (cells_by n s p (at + len) (drop len r)) (drop len r)) (sym long) rest)
+
+-- ---- the files of a volume
+
+-- the bytes after the header
+abbrev pub body_of_extent : Extent → List ℕ → List ℕ
+body_of_extent x b = drop x.first (take x.length b)
+
+-- the valid files among the first n cells
+abbrev pub files_by : ℕ → Extent → List ℕ → List FileForm
+files_by n x b = files_in (cells_by n x.file_system x.polarity x.first (body_of_extent x b))
+
+-- the header and the first n cells of the bytes are read, and the bytes after these cells are erased
+pub record IsReadBy (n : ℕ) (x : Extent) (b : List ℕ) : Type 0 where
+  pub bytes : list_all (λ y. nat_lt y 256) b ≡ true
+  pub header : head_verdict b ≡ Ok x
+  pub eighths : length (body_of_extent x b) % 8 ≡ 0
+  pub cells : hold_by n x.file_system x.polarity x.first (body_of_extent x b) ≡ true
+
+-- the file at the offset p, whose data are valid
+abbrev pub file_at : ℕ → List ℕ → FileForm
+file_at p b = record { offset = p; head = head_in DataValid (drop p b); payload = payload_at (drop p b) }
+
+-- the files have a fault of their names
+pub names_reject : (n : ℕ) (x : Extent) (b : List ℕ) (kind : FaultKind) (at : ℕ) → IsReadBy n x b
+    → NamesFault First x.length (files_by n x b) (outer_fault kind at) → Rejects b (outer_fault kind at)
+names_reject n x b kind at read bad =
+    body_rejects b x _ read.bytes read.header (inl (_, inr (_, tiled n _ _ _ _ read.eighths read.cells, bad), stays kind at))
+
+-- the only file holds sections, and they have a fault
+pub file_rejects : (n : ℕ) (x : Extent) (b : List ℕ) (e : Fault) (f : FileForm) → IsReadBy n x b
+    → NoStoredTwins (files_by n x b) × TopAtEnd x.length (current_in (files_by n x b)) → current_in (files_by n x b) ≡ f ∷ []
+    → holds_sections f.head.kind ≡ true → InStream First depth_limit e f.payload (data_at outermost f) → Rejects b e
+file_rejects n x b e f read names only holds bad =
+    body_rejects b x e read.bytes read.header
+    (inr (_, tiled n _ _ _ _ read.eighths read.cells, names, ([], f, [], only, ([], tt), (holds, bad))))
+
+-- ---- groups
+
+abbrev group : List ℕ → FrameForm
+group body = record { offset = 0; kind = group_kind; extended = false; body = body }
+
+-- a stream that consists of one group has the first fault of this group
+one_group : (n : ℕ) (e : Fault) (k : ℕ) (body : List ℕ) (at : Place) → k ≡ 4 + length body → nat_lt k 256 ≡ true
+    → InSection First n e (group body) at → InStream First n e (k ∷ 0 ∷ 0 ∷ 3 ∷ body) at
+one_group n e k body at size short bad = inr (group body ∷ [], 0, ([], begins, refl, refl, omega arith), ([], group body, [], refl, ([], tt), bad)) where
+  begins : BeginsFrame (group body) (k ∷ 0 ∷ 0 ∷ 3 ∷ body) []
+  begins = record {
+    head = k ∷ 0 ∷ 0 ∷ 3 ∷ [];
+    is_header = record {
+      header_length = refl;
+      kind_is = refl;
+      states = (omega (arith, size), λ long. omega (arith, size, long, ltb-true k 256 short));
+    };
+    text = ap (λ (l : List ℕ). k ∷ 0 ∷ 0 ∷ 3 ∷ l) (sym (append-nil body));
+  }
+
+-- the fault is in the body of the group
+pub in_group : (n : ℕ) (e : Fault) (k : ℕ) (body : List ℕ) (at : Place) → k ≡ 4 + length body → nat_lt k 256 ≡ true
+    → InStream First n e body (body_at at (group body)) → InStream First (suc n) e (k ∷ 0 ∷ 0 ∷ 3 ∷ body) at
+in_group n e k body at size short bad = one_group (suc n) e k body at size short (inl (refl, bad))
+
+-- the group is nested too deep
+pub deep_group : (k : ℕ) (body : List ℕ) (at : Place) → k ≡ 4 + length body → nat_lt k 256 ≡ true
+    → InStream First 0 (moved_fault at.offset at.depth (outer_fault kinds.Depth 0)) (k ∷ 0 ∷ 0 ∷ 3 ∷ body) at
+deep_group k body at size short = one_group 0 _ k body at size short (inl refl, refl)
+
+-- ---- volumes
+
+-- the fields of the header are read at their offsets
+pub record IsReadAs (h : HeadFields) (b : List ℕ) : Type 0 where
+  pub zero_vector : h.zero_vector ≡ field 0 16 b
+  pub volume_length : h.length ≡ volume_len_at b
+  pub attributes : h.attributes ≡ le_at 44 4 b
+  pub reserved : h.reserved ≡ slice_index b 54
+  pub blocks : h.blocks ≡ pairs_of (field 56 (header_len_of h - 64) b)
+
+-- bytes whose header, cells and files are read are a volume
+pub accepts : (n first : ℕ) (h : HeadFields) (ms : FileMeanings) (b : List ℕ) → IsReadBy n (extent_of h first) b → IsReadAs h b
+    → HasExt h.ext (extent_of h first) b → length b ≡ h.length
+    → NoStoredTwins (files_by n (extent_of h first) b) × TopAtEnd h.length (current_in (files_by n (extent_of h first) b))
+    → Pairwise (MeansFile (Stream depth_limit)) (current_in (files_by n (extent_of h first) b)) (files_list ms)
+    → Accepted b (Volume h ms)
+accepts n first h ms b read fields ext long names meanings =
+    let x : Extent = extent_of h first in
+    let bytes = small b read.bytes in
+    let tiles = tiled n x.file_system x.polarity first (body_of_extent x b) read.eighths read.cells in
+    (bytes, record {
+      extent = x;
+      begins = kept_fields b x h.zero_vector h.length h.attributes h.reserved h.blocks h.ext (_, (front_found b x bytes read.header).1) fields.zero_vector
+          fields.volume_length fields.attributes fields.reserved fields.blocks ext;
+      length_is = long;
+      cells = cells_by n x.file_system x.polarity first (body_of_extent x b);
+      tiles = subst (λ (c : List ℕ). Tiles x.file_system x.polarity first (cells_by n x.file_system x.polarity first (body_of_extent x b)) (drop first c))
+          (take_all h.length b (omega (arith, long))) tiles;
+      files = current_in (files_by n x b);
+      current = record { no_twins = names.0; files_are = refl; top = names.1 };
+      meanings = meanings;
+    })
