@@ -7,12 +7,11 @@ use Rattle.fv_flash.specs.Words.{IsPlace}
 use Rattle.fv_head.specs.Words.{BeginsWithHeader}
 use Rattle.fv_tree.specs.Words.{Meaning, head_of}
 use Rattle.fv_tree.proofs.Laws.{front_of}
-use Rattle.fv_command.specs.RunInputs.{BeginsWith}
-use Rattle.fv_command.specs.Tasks.{MemoryRanOutInImage}
+use Rattle.fv_command.specs.Words.{BeginsWith, MemoryRanOutInImage}
 
 -- an input that begins with a volume begins with the header of that volume
 pub begun_header : (b : List ℕ) (m : Meaning) → BeginsWith b m → BeginsWithHeader b
-begun_header b m (n, small, accepted) = (head_of m, accepted.1.extent, front_of depth_limit n b m small accepted.1)
+begun_header b m (n, small, accepted) = (head_of m, accepted.1.extent, (front_of depth_limit n b m small accepted.1).0)
 
 -- if memory runs out only for this cause, memory ran out and the cause holds, or there is another reason
 pub with_cause : {RanOut Cause Why : Type 0} → RanOut ⊎ Why → (RanOut → Cause) → (RanOut × Cause) ⊎ Why

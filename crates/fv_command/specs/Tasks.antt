@@ -98,7 +98,7 @@ MemoryRanOutInImage input fault = (fault ≡ out_of_memory) × ((place : ℕ) ×
 abbrev pub MemoryRanOutForCopy : List ℕ → Fault → Type 0
 MemoryRanOutForCopy input fault = (fault ≡ out_of_memory) × ((o : List ℕ) × UnfixesTo input o)
 
--- why a task writes nothing for its input:
+-- why a task writes nothing for its input. Memory ran out, or this is the reason:
 -- - `Normalise`: the input is not a volume, or does not fit
 -- - `NormaliseAll`: a volume in the input is not accepted or does not fit, or the input is longer than the limit
 -- - `Listing`: the input does not begin with a volume
@@ -109,11 +109,11 @@ MemoryRanOutForCopy input fault = (fault ≡ out_of_memory) × ((o : List ℕ) �
 -- - `Cells`: the input does not begin with a volume whose body is tiled by cells
 -- - `Unfix`: the input does not begin with a volume whose body is tiled by cells when no file is marked as fixed, or
 --   bytes follow the volume
--- - `Scan`: no other reason than memory
--- Or memory ran out. This can happen only if a volume begins in the input, at a multiple of 8, in `NormaliseAll`,
--- `CheckAll` and `Scan`, and the input is not longer than the limit in the first two. In `Unfix` it can happen only if
--- the input is a volume from which the marks can be taken away, and in any other task only if the input begins with a
--- volume header
+-- - `Scan`: no other reason
+-- Memory can run out only if the input begins with a volume header. Three tasks look for volumes in the input
+-- (`NormaliseAll`, `CheckAll`, `Scan`): there memory can run out only if a volume begins in the input and, in the first
+-- two, the input is not longer than the limit. In `Unfix` it can run out only if the input is a volume from which the
+-- marks can be taken away
 abbrev pub TaskRefusal : Task → List ℕ → Fault → Type 0
 TaskRefusal Normalise input fault = MemoryRanOut input fault ⊎ Rejects input fault
 TaskRefusal NormaliseAll input fault =
