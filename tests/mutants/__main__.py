@@ -1,6 +1,6 @@
 # SPDX-License-Identifier: BSD-2-Clause-Patent
-"""mutants [CRATE|CRATE/EDIT..]: tries the wrong bodies in crates/NAME/mutants/, many in each check. The prover must
-reject every one, at the goal that the edit names.
+"""mutants [CRATE|CRATE/EDIT..]: tries the wrong bodies in mutants/ and must-fail/ of crates/NAME, many in each check.
+The prover must reject every one, at the goal that the edit names.
 
 An edit has the form of a must-fail edit, with one or two further lines:
 
@@ -12,7 +12,12 @@ An edit has the form of a must-fail edit, with one or two further lines:
 
 NAME is the goal as the checker prints it in backquotes, for example `returns-clause-found`. It must belong to a
 function that the edit changes. A line `goal: MODULE::FUNCTION NAME` names the function too: an edit of a constant needs
-this, and is tried on its own. Several pairs of old and new are one edit.
+this, and is tried on its own. Several pairs of old and new are one edit. In must-fail/ the two further lines begin with
+`# `: `rt ci` does not read them, and accepts any goal at which it rejects the edit.
+
+The goal must not belong to a clause that says nothing of the outcome: a clause that names neither `result` nor a new
+state, for example `out.new`. No body can break such a clause. The prover rejects the edit only if its proof of the
+clause needs the right body, and would still reject it without the clause that matters.
 
 Many edits share a check (docs/DECISIONS.md, The gate's time). All that the edits do not change is given and not proved
 again: the theorems of the other functions, the lemmas of the crate, and all goals of a changed function except the goal
@@ -37,8 +42,8 @@ The goals of the changed functions determine the grade of an edit:
   and listed as weak. If the goal is proved, the contract permits the edit. The line `answer: none` marks an edit whose
   goal has an answer that no longer fits, so that the edit is tried only once, without the answer.
 
-An edit fails if it is proved, if only goals that it does not name are open, if it cannot be applied or compiled, or if
-the checker cannot judge its function.
+An edit fails if it is proved, if only goals that it does not name are open, if no body can break the clause of its
+goal, if it cannot be applied or compiled, or if the checker cannot judge its function.
 
 Nothing is written into the repository. The copies lie in a folder of their own in TMPDIR, which is removed at the end,
 also after Ctrl-C. The libraries below a crate have to be built: `rt ci`, `tools/prove.py fv_tool` or `rt check` leave
