@@ -12,20 +12,20 @@ use Rattle.fv_file.proofs.Laws.{body_unmarked, length-unmarks, lost_of, one_lost
 use Rattle.fv_head.specs.Words.{HeadFields, BeginsVolume}
 use Rattle.fv_head.specs.declared.extent.Extent.{Extent}
 use Rattle.fv_head.proofs.Laws.{first_lies, front_decided, one_front}
-use Rattle.fv_tree.specs.Words.{Unfixes, IsUnfixed, UnfixStops, BeginsTiled, body_at, LosesMarks, DifferInMarksOnly}
+use Rattle.fv_tree.specs.Words.{Unfixes, IsUnfixed, UnfixStops, BeginsTiled, body_in_volume, LosesMarks, DifferInMarksOnly}
 use Rattle.fv_tree.proofs.FixedMarkLaws.{body_tiled, header_kept, is_unfixed, kept, stops_there}
 
 -- ---- 1. the parts of the copy
 
 -- the body of a volume has a multiple of 8 bytes
-body_in_eights : (b : List ℕ) (h : HeadFields) (e : Extent) → BeginsVolume h e b → length (body_at e b) % 8 ≡ 0
+body_in_eights : (b : List ℕ) (h : HeadFields) (e : Extent) → BeginsVolume h e b → length (body_in_volume e b) % 8 ≡ 0
 body_in_eights b h e begins =
     let lies = first_lies b h e begins in
-    let size : length (body_at e b) ≡ e.length - e.first =
+    let size : length (body_in_volume e b) ≡ e.length - e.first =
     length-take-le (e.length - e.first) (drop e.first b) (omega (arith, length-drop e.first b, begins.is_within, lies.1)) in
     omega (arith, size, lies.0, lies.1, lies.2)
 
-body_is : (b o body : List ℕ) (e : Extent) → Unfixes e b o body → body_at e o ≡ body
+body_is : (b o body : List ℕ) (e : Extent) → Unfixes e b o body → body_in_volume e o ≡ body
 body_is b o body e u =
     let long : e.length ≡ e.first + (e.length - e.first) = omega (arith, (first_lies b u.head e u.begins).1) in
     sym (ap (λ (n : ℕ). drop e.first (take n o)) long ∙ drop-take e.first (e.length - e.first) o) ∙ (kept b o body e u).body_is
@@ -43,9 +43,9 @@ rest_kept b o body e u =
 -- ---- 2. each cell
 
 parts_lost : (b o body : List ℕ) (e : Extent) (cells : List CellForm) → Unfixes e b o body → BeginsTiled e cells o
-    → TilesUnmarked e.file_system e.polarity e.first cells (body_at e b) body
+    → TilesUnmarked e.file_system e.polarity e.first cells (body_in_volume e b) body
 parts_lost b o body e cells u tiled =
-    lost_of e.file_system e.polarity e.first (body_at e b) (body_in_eights b u.head e u.begins) u.places body cells u.marks
+    lost_of e.file_system e.polarity e.first (body_in_volume e b) (body_in_eights b u.head e u.begins) u.places body cells u.marks
     (body_tiled b o body e cells u tiled)
 
 pub marks_lost : (b o : List ℕ) → IsUnfixed b o → (e : Extent) × (cells : List CellForm) × BeginsTiled e cells o × LosesMarks e cells b o
@@ -58,7 +58,7 @@ marks_lost b o (e, body, u, (cells, tiled)) =
         length_is = k.length_is;
         front = k.prefix;
         rest = rest_kept b o body e u;
-        parts = subst (TilesUnmarked e.file_system e.polarity e.first cells (body_at e b)) (sym (body_is b o body e u))
+        parts = subst (TilesUnmarked e.file_system e.polarity e.first cells (body_in_volume e b)) (sym (body_is b o body e u))
             (parts_lost b o body e cells u tiled);
       },
     )
@@ -68,8 +68,8 @@ same_copy : (a b o x body other : List ℕ) (e : Extent) (cells ds : List CellFo
     → BeginsTiled e cells o → BeginsTiled e ds x → DifferInMarksOnly e cells a b → x ≡ o
 same_copy a b o x body other e cells ds u v tiled tiled' differ =
     let same : other ≡ body =
-    one_lost e.file_system e.polarity e.first cells ds (body_at e b) body other
-    (other_lost e.file_system e.polarity e.first cells (body_at e a) (body_at e b) body (parts_lost a o body e cells u tiled) differ.parts)
+    one_lost e.file_system e.polarity e.first cells ds (body_in_volume e b) body other
+    (other_lost e.file_system e.polarity e.first cells (body_in_volume e a) (body_in_volume e b) body (parts_lost a o body e cells u tiled) differ.parts)
     (parts_lost b x other e ds v tiled') in
     v.text ∙ ap (λ (l : List ℕ). l ++ (other ++ drop e.length b)) (sym differ.front)
     ∙ ap (λ (l : List ℕ). take e.first a ++ (l ++ drop e.length b)) same
@@ -90,7 +90,7 @@ one_copy a b o x e cells (f, body, u, (cs, tiled')) (g, other, v, (ds, tiled''))
 pub copy_decided : (b : List ℕ) → IsBytes b → ((o : List ℕ) × IsUnfixed b o) ⊎ ((f : Fault) × UnfixStops b f)
 copy_decided b small = elim (front_decided b small) [
   | inr (f, first) ↦ inr (f, inl first)
-  | inl (e, h, begins) ↦ elim (body_unmarked e.file_system e.polarity e.first (body_at e b) (body_in_eights b h e begins)) [
+  | inl (e, h, begins) ↦ elim (body_unmarked e.file_system e.polarity e.first (body_in_volume e b) (body_in_eights b h e begins)) [
     | inl (places, body, marks, (cells, tiles)) ↦ inl (_, is_unfixed b h e begins body places marks cells tiles)
     | inr (f, (places, body, marks, here, other)) ↦ inr (f, stops_there b h e begins body places marks f here other)
   ]
