@@ -235,7 +235,7 @@ def read_cell(volume: Span, header: Header, at: int) -> Cell:
         return Cell("unfinished", at, header_length)
     size = read_size(volume, header, at, header_length)
     if state in (HEADER_VALID, DELETED):
-        return Cell("deleted" if state == DELETED else "unfinished", at, size)
+        return Cell("deleted" if state == DELETED else "unfinished", at, size, header_length)
     file_type = volume.number(at + 18, 1)
     if file_type == FFS_PAD:
         return Cell("pad", at, size, header_length)
