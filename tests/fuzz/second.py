@@ -104,13 +104,6 @@ def changes_of(pick: random.Random, data: bytes) -> list[bytes]:
     return [aimed(pick, parts) if pick.randrange(3) else broken(pick, data, spans) for _ in range(CHANGES)]
 
 
-def about_volume(pick: random.Random, data: bytes, others: list[bytes], commands: list[str]) -> Iterator[Question]:
-    """Yields questions about a volume or an image: these commands, and the place of its fault."""
-    for command in commands:
-        yield Question(command, data, pick.choice(others) if command == "compare" else None)
-    yield Question("place", data)
-
-
 def about_expression(pick: random.Random, name: str) -> Iterator[Question]:
     """Yields a question about a dependency expression: its truth if some GUIDs are installed. The maker wrote the
     expression, or it consists of any ops."""
@@ -134,10 +127,13 @@ def questions(case: Case, seed: int, index: int) -> Iterator[Question]:
             yield Question("hobs", data, image, case.base)
     else:
         changes = changes_of(pick, case.data)
-        others = [case.twin or case.data, changes[0]]
-        yield from about_volume(pick, case.data, others, ["list", "cells", pick.choice(COMMANDS[2:])])
-        for data in changes:
-            yield from about_volume(pick, data, [case.data], [pick.choice(COMMANDS)])
+        for data in [case.data, *changes]:
+            is_made = data is case.data
+            other = pick.choice((case.twin or data, changes[0])) if is_made else case.data
+            commands = ["list", "cells", pick.choice(COMMANDS[2:])] if is_made else [pick.choice(COMMANDS)]
+            for command in commands if case.kind == "volume" else ["scan"]:
+                yield Question(command, data, other if command == "compare" else None)
+            yield Question("place", data)
     yield from about_expression(pick, f"{seed}/{index} expression")
 
 
