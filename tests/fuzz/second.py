@@ -23,13 +23,13 @@ from types import ModuleType
 
 import fv
 from tests import second_reader
-from tests.checks import ROOT, read
+from tests.checks import ROOT, read, skip_all
 from tests.frame import LIBRARY, PROGRAM
 from tests.fuzz.aimed import aimed, parts_of
 from tests.fuzz.cases import Case, broken, make_case
 from tests.fuzz.fuzz import KEPT
 from tests.fuzz.maker import Maker
-from tests.fuzz.program import Answer, Program
+from tests.fuzz.program import Answer, Program, Wrong
 from tests.second_reader import END, PUSH
 
 READER = ROOT / "tests/second_reader.py"
@@ -158,10 +158,13 @@ def told_answer(program: Program, question: Question) -> Answer:
     """Returns the answer of the program, or of the library. The verdict of `check` is removed."""
     if question.command in ("place", "truth"):
         return library_answer(question)
-    if question.command == "hobs":
-        return program.once("hobs", question.data, image=question.other, base=question.number)
     others = () if question.other is None else (question.other,)
-    status, text = program.once(question.command, question.data, *others)
+    try:
+        if question.command == "hobs":
+            return program.once("hobs", question.data, image=question.other, base=question.number)
+        status, text = program.once(question.command, question.data, *others)
+    except Wrong as wrong:  # no end, a signal, or another message on standard error
+        return -1, str(wrong).encode()
     if question.command == "check" and status < 2:
         status, text = 0, re.sub(rb"(?:not )?canonical\n\Z", b"", text)
     return status, text
@@ -184,7 +187,7 @@ def reader_answer(reader: ModuleType, question: Question) -> Answer:
     except reader.Fault as fault:
         return 2, f"fault {fault.number} at {fault.offset} depth {fault.depth}".encode()
     except Exception as error:  # a reader that ends in this way gives another answer than the program
-        return -1, repr(error).encode()
+        return -2, repr(error).encode()
 
 
 # A process that asks
@@ -210,6 +213,7 @@ class Asker:
             result.outcomes[f"{question.command} {number[0].decode() if number else 'accepted'}"] += 1
             if own != told:
                 result.differences.append(self.shown(result, question, told, own))
+                continue
             for name in [it for it, plant in self.plants.items() if reader_answer(plant, question) != told]:
                 del self.plants[name]
                 result.found[name] = result.inputs
@@ -262,10 +266,10 @@ def ask_everything(given: argparse.Namespace, room: str) -> int:
         print(f"{command}: " + ", ".join(f"{outcome}: {count}" for outcome, count in counts))
     for name in PLANTS if given.plants else ():
         print(f"plant {name}: " + (f"found after {found[name]} inputs" if name in found else "NOT FOUND"))
-    lost = len(PLANTS) - len(found) if given.plants else 0
-    print(f"{inputs} inputs from {given.first}, seed {given.seed}: {asked} questions, "
-          f"{time.monotonic() - start:.0f} seconds, {wrong} differences, {len(found)} plants found, {lost} not found")
-    return 1 if wrong or lost else 0
+    figures = f"{asked} questions, {time.monotonic() - start:.0f} seconds, {wrong} differences"
+    figures += f", {len(found)} of {len(PLANTS)} plants found" * given.plants
+    print(f"{inputs} inputs from {given.first}, seed {given.seed}: {figures}")
+    return 1 if wrong or given.plants and len(found) < len(PLANTS) else 0
 
 
 def main() -> int:
@@ -279,9 +283,8 @@ def main() -> int:
     reader.add_argument("--keep", type=Path, default=KEPT, help="the folder for inputs with a difference")
     reader.add_argument("--plants", action="store_true", help="also look for the planted misreadings")
     given = reader.parse_args()
-    for path in (PROGRAM, LIBRARY):
-        if not path.exists():
-            reader.error(f"{path} is not there: ./fvtool < crates/fv_tool/stdin or libfv/build builds it")
+    if not PROGRAM.exists() or not LIBRARY.exists():
+        return skip_all("second", "all of it", "the program or the library is not built (./fvtool and libfv/build)")
     os.environ["LIBFV"] = str(LIBRARY)
     in_memory = "/dev/shm" if os.access("/dev/shm", os.W_OK) else None
     with tempfile.TemporaryDirectory(prefix="second-", dir=in_memory) as room:
