@@ -90,6 +90,7 @@ def set_length(pick: random.Random, found: bytearray, start: int, end: int) -> N
     last, size = int.from_bytes(found[start + 48 : start + 50], "little") - 8, end - start
     limit = reader.VOLUME_LIMIT
     length = pick.choice((0, 8, last, last + 8, size - 8, size + 8, size - 1, size + 4, limit, limit + 8, limit * 8))
+    length %= 1 << 32
     found[start + 32 : start + 40] = struct.pack("<Q", length)
     for at in range(56, min(last, size - 8), 8):
         pair = (1, length) if at == 56 else (0, pick.choice((1, 1, 0)))
@@ -101,12 +102,14 @@ def aimed(pick: random.Random, parts: Parts) -> bytes:
     found, groups = bytearray(parts.data), list(parts.groups.values())
     for _ in range(pick.choice((1, 1, 1, 2, 4)) if groups else 0):
         at, size = pick.choice(pick.choice(groups))
+        if at + size > len(found):
+            continue
         old = int.from_bytes(found[at : at + size], "little")
         near = old + pick.choice((-20, -8, -4, -1, 1, 4, 8, 20))
         far = len(found) - at + pick.choice((-8, -1, 0, 1, 8, 12, 40))
         flipped, last = old ^ 1 << pick.randrange(8 * size), -pick.choice((1, 2, 8))
         value = pick.choice((near, near, far, flipped, pick.choice(NAMED), last, 0))
-        found[at : at + size] = (value % (1 << 8 * size)).to_bytes(size, "little")[: len(found) - at]
+        found[at : at + size] = (value % (1 << 8 * size)).to_bytes(size, "little")
     if parts.volumes and pick.randrange(12) == 0:
         set_length(pick, found, *pick.choice(parts.volumes)[:2])
     for start, end, spans in parts.volumes[::-1] if pick.randrange(8) else ():
