@@ -3,11 +3,10 @@
 body can break this clause. A wrong body would then be rejected only because the proof of the clause lacks a fact, and
 would still be rejected if the clause that matters were deleted."""
 
-import unittest
-
 from tests.checks import ROOT
+from tests.frame import RoomCase
 from tests.mutants.crates import files_of
-from tests.mutants.edits import files_of_edits, read_edit, changed
+from tests.mutants.edits import Change, Edit, changed, files_of_edits, read_edit
 from tests.mutants.functions import can_be_broken, functions
 from tests.sources.definitions import Clause
 
@@ -36,7 +35,7 @@ impl Sink for Gap {
 """
 
 
-class Goals(unittest.TestCase):
+class Goals(RoomCase):
     """Which goals a wrong body may name."""
 
     def test_outcome(self) -> None:
@@ -76,6 +75,14 @@ class Goals(unittest.TestCase):
         ):
             with self.subTest(f"{names}: {goal}"):
                 self.assertEqual(can_be_broken(goal, [owners[it] for it in names.split()], texts), is_accepted)
+
+    def test_lines(self) -> None:
+        """The lines that `rt ci` does not read are the same with `# ` before them, as in must-fail/."""
+        for mark in ("", "# "):
+            path = self.room / "made.edit"
+            path.write_text(f"file: src/a.rt\nold: x\nnew: y\n{mark}goal: a::f returns-clause-ok\n{mark}answer: none\n")
+            found = Edit(path, (Change("src/a.rt", "x", "y"),), "returns-clause-ok", "a::f", True)
+            self.assertEqual(read_edit(path), found)
 
     def test_edits(self) -> None:
         """Each wrong body of the repository names a goal that a body can break, also each that `rt ci` tries."""
