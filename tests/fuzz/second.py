@@ -38,6 +38,8 @@ from tests.fuzz.program import Answer, Program, Wrong
 from tests.libfv import inputs
 from tests.second_reader import END, PUSH
 
+# How often a command had an outcome.
+Outcomes = collections.Counter[tuple[str, str]]
 READER = ROOT / "tests/second_reader.py"
 COMMANDS = ("list", "cells", "check", "scan", "compare")
 CHANGES = 3  # changed inputs for each made input
@@ -85,7 +87,7 @@ class Result:
     index: int
     inputs: int = 0
     questions: int = 0
-    outcomes: collections.Counter[str] = field(default_factory=collections.Counter)
+    outcomes: Outcomes = field(default_factory=Outcomes)
     differences: list[str] = field(default_factory=list)
     found: dict[str, int] = field(default_factory=dict)
 
@@ -262,7 +264,7 @@ class Asker:
             result.questions += 1
             told, own = told_answer(self.program, question), reader_answer(second_reader, question)
             number = re.match(rb"(?:hob |first |second )?fault \d+", told[1]) if told[0] == 2 else None
-            result.outcomes[f"{question.command} {number[0].decode() if number else 'accepted'}"] += 1
+            result.outcomes[question.command, number[0].decode() if number else "accepted"] += 1
             if own != told:
                 result.differences.append(self.shown(result, question, told, own))
                 continue
@@ -302,7 +304,7 @@ def ask(index: int) -> Result:
 
 def ask_everything(given: argparse.Namespace, room: str) -> int:
     """Asks about all inputs, and prints the figures. Returns the exit status."""
-    start, outcomes, found = time.monotonic(), collections.Counter[str](), dict[str, int]()
+    start, outcomes, found = time.monotonic(), Outcomes(), dict[str, int]()
     tried = asked = wrong = 0
     first = -len(rows()) if given.first == 0 else given.first
     with ProcessPoolExecutor(given.jobs, get_context("spawn"), begin, (given, room)) as pool:
@@ -313,9 +315,9 @@ def ask_everything(given: argparse.Namespace, room: str) -> int:
             outcomes += result.outcomes
             for text in result.differences:
                 print(text, flush=True)
-    for command in (*COMMANDS, "hobs", "place", "truth"):
-        counts = [(it.partition(" ")[2], count) for it, count in sorted(outcomes.items()) if it.split()[0] == command]
-        print(f"{command}: " + ", ".join(f"{outcome}: {count}" for outcome, count in counts))
+    for command in dict.fromkeys(it[0] for it in outcomes):
+        counts = (f"{it[1]}: {count}" for it, count in sorted(outcomes.items()) if it[0] == command)
+        print(f"{command}: " + ", ".join(counts))
     for name in PLANTS if given.plants else ():
         print(f"plant {name}: " + (f"found after {found[name]} inputs" if name in found else "NOT FOUND"))
     figures = f"{asked} questions, {time.monotonic() - start:.0f} seconds, {wrong} differences"
