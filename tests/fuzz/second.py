@@ -1,15 +1,19 @@
 # SPDX-License-Identifier: BSD-2-Clause-Patent
-"""Asks the built program, the library and the second reader (tests/second_reader.py) about the inputs of fuzz.py and
-about changes of them, and prints each difference between their answers. With --plants, it also asks readers with a
-planted misreading, each of which has to give another answer than the program. README.md in this folder describes more.
+"""Asks the built program, the library and the second reader (tests/second_reader.py) about the inputs of the rows of
+crates/fv_run_tests/rows, about the inputs of fuzz.py, and about changes of these, and prints each difference between
+their answers. With --plants, it also asks readers with a planted misreading, each of which has to give another answer
+than the program. README.md in this folder describes more.
 
 The exit status is 1 if there is a difference, or if a planted misreading was not found."""
 
 import argparse
 import collections
+import functools
+import itertools
 import os
 import random
 import re
+import struct
 import sys
 import tempfile
 import time
@@ -20,9 +24,10 @@ from dataclasses import dataclass, field
 from multiprocessing import get_context
 from pathlib import Path
 from types import ModuleType
+from typing import Any
 
 import fv
-from tests import second_reader
+from tests import making, second_reader
 from tests.checks import ROOT, read, skip_all
 from tests.frame import LIBRARY, PROGRAM
 from tests.fuzz.aimed import aimed, parts_of
@@ -30,11 +35,15 @@ from tests.fuzz.cases import Case, broken, make_case
 from tests.fuzz.fuzz import KEPT
 from tests.fuzz.maker import Maker
 from tests.fuzz.program import Answer, Program, Wrong
+from tests.libfv import inputs
 from tests.second_reader import END, PUSH
 
+# How often a command had an outcome.
+Outcomes = collections.Counter[tuple[str, str]]
 READER = ROOT / "tests/second_reader.py"
 COMMANDS = ("list", "cells", "check", "scan", "compare")
 CHANGES = 3  # changed inputs for each made input
+MOST = 1 << 18  # bytes of an input of a row
 # Misreadings of the specification: the text of the reader that each replaces, and the text that takes its place.
 PLANTS = {
     "erase polarity inverted": ("0xFF if attributes & ERASE_POLARITY else 0x00", "~attributes >> 11 & 1 and 0xFF"),
@@ -78,7 +87,7 @@ class Result:
     index: int
     inputs: int = 0
     questions: int = 0
-    outcomes: collections.Counter[str] = field(default_factory=collections.Counter)
+    outcomes: Outcomes = field(default_factory=Outcomes)
     differences: list[str] = field(default_factory=list)
     found: dict[str, int] = field(default_factory=dict)
 
@@ -115,6 +124,51 @@ def about_expression(pick: random.Random, name: str) -> Iterator[Question]:
     pushed = re.findall(rb"(?s)\x02(.{16})", data)
     names = [it for it in pushed if pick.randrange(2)] + [pick.randbytes(16)] * pick.randrange(2)
     yield Question("truth", data, b"".join(names), pick.randrange(2))
+
+
+def hand_off(*blocks: tuple[int, int], body: bytes = b"") -> bytes:
+    """Returns a list of blocks of these types and lengths after the first. All have the same bytes after the header."""
+    all_blocks = ((1, 56), *blocks, (0xFFFF, 8))
+    return b"".join((struct.pack("<HHI", *it, 0) + body).ljust(it[1], b"\0")[: it[1]] for it in all_blocks)
+
+
+def named_volume(length: int, place: int, size: int, rest: bytes = b"") -> bytes:
+    """Returns an empty volume with an extended header of this size at this place, cut off by the end of the volume."""
+    ext = bytes(max(place, 72) - 72) + bytes(range(16)) + struct.pack("<I", size) + rest
+    return (making.header(length, place) + ext).ljust(length, b"\xff")[:length]
+
+
+def edges() -> Iterator[Question]:
+    """Yields questions at the limits of rules that made inputs seldom reach: the length of each block, the place of a
+    volume in an image, the end of an extended header, its entries, and the bodies of sections with an inner format."""
+    for kind, length in itertools.product((*range(0x10), 0xFFFE, 0xFFFF), range(0, 80, 8)):
+        yield Question("hobs", hand_off((kind, length)))
+    image, base = making.volume([], 128), 1 << 20
+    for first, length in itertools.product((-1, 0, 1, 127, 128, 129), (0, 1, 127, 128, 129)):
+        listed = hand_off((5, 24), (9, 56), body=struct.pack("<QQ", base + first, length))
+        yield Question("hobs", listed, image, base)
+    for length, place, size in itertools.product((96, 104), range(70, 90), (19, 20, 21, 24, 25)):
+        yield Question("list", named_volume(length, place, size))
+    for kind, size in itertools.product(range(5), range(3, 10)):
+        one, other = (named_volume(104, 72, 29, struct.pack("<HH5s", size, kind, it)) for it in (b"12345", b"62345"))
+        yield Question("compare", one, other)
+    units = [b"".join(it) for n in range(5) for it in itertools.product((b"\0\0", b"A\0"), repeat=n)]
+    bodies = [*units, *(it[1:] for it in units[1:]), *(bytes(range(n)) for n in (15, 16, 17))]
+    kinds = (making.VERSION, making.UI, making.SUBTYPE)
+    sections = (making.section(kind, body) for kind, body in itertools.product(kinds, bodies))
+    yield Question("list", making.volume([making.file(making.guid(1), making.stream(*sections), making.FREEFORM)]))
+
+
+@functools.cache
+def rows() -> list[list[Question]]:
+    """Returns the questions about each input of a row, which is compared with the input before it, and about edges."""
+    found, last = list[list[Question]](), b""
+    for data in dict.fromkeys((*inputs.spelled(), *inputs.expressions())):
+        if len(data) <= MOST:
+            asked = [Question(it, data, last if it == "compare" else None) for it in (*COMMANDS, "hobs", "place")]
+            found.append([*asked, *(Question("truth", data, None, it) for it in fv.Phase)])
+            last = data
+    return [*found, *([it] for it in edges())]
 
 
 def questions(case: Case, seed: int, index: int) -> Iterator[Question]:
@@ -202,15 +256,15 @@ class Asker:
     plants: dict[str, ModuleType]
 
     def ask_all(self, index: int) -> Result:
-        """Asks all questions about the input with this number and its changes."""
-        case, result, last = make_case(self.given.seed, index), Result(index), b""
-        for question in questions(case, self.given.seed, index):
+        """Asks all questions about the input with this number and its changes, or about a row with this number."""
+        seed, result, last = self.given.seed, Result(index), None
+        for question in questions(make_case(seed, index), seed, index) if index >= 0 else rows()[index]:
             result.inputs += question.data is not last
             last = question.data
             result.questions += 1
             told, own = told_answer(self.program, question), reader_answer(second_reader, question)
             number = re.match(rb"(?:hob |first |second )?fault \d+", told[1]) if told[0] == 2 else None
-            result.outcomes[f"{question.command} {number[0].decode() if number else 'accepted'}"] += 1
+            result.outcomes[question.command, number[0].decode() if number else "accepted"] += 1
             if own != told:
                 result.differences.append(self.shown(result, question, told, own))
                 continue
@@ -226,7 +280,7 @@ class Asker:
         Path(f"{stem}.input").write_bytes(question.data)
         if question.other is not None:
             Path(f"{stem}.other").write_bytes(question.other)
-        again = f"python3 -m tests.fuzz.second --seed {self.given.seed} --first {result.index} --count 1"
+        again = f"tests/run.py second -- --no-plants --seed {self.given.seed} --first {result.index} --count 1"
         texts = (f"  {name}: {it[0]} {it[1][:2000]!r}" for name, it in (("told", told), ("own", own)))
         head = f"DIFFERENCE {result.index} ({question.command}, number {question.number}), kept as {stem}.*"
         return "\n".join([head, *texts, f"  again: {again}"])
@@ -250,25 +304,25 @@ def ask(index: int) -> Result:
 
 def ask_everything(given: argparse.Namespace, room: str) -> int:
     """Asks about all inputs, and prints the figures. Returns the exit status."""
-    start, outcomes, wrong = time.monotonic(), collections.Counter[str](), 0
-    inputs = asked = 0
-    found: dict[str, int] = {}
+    start, outcomes, found = time.monotonic(), Outcomes(), dict[str, int]()
+    tried = asked = wrong = 0
+    first = -len(rows()) if given.first == 0 else given.first
     with ProcessPoolExecutor(given.jobs, get_context("spawn"), begin, (given, room)) as pool:
-        for result in pool.map(ask, range(given.first, given.first + given.count), chunksize=10):
+        for result in pool.map(ask, range(first, given.first + given.count), chunksize=10):
             for name, count in result.found.items():
-                found.setdefault(name, inputs + count)
-            inputs, asked, wrong = inputs + result.inputs, asked + result.questions, wrong + len(result.differences)
+                found.setdefault(name, tried + count)
+            tried, asked, wrong = tried + result.inputs, asked + result.questions, wrong + len(result.differences)
             outcomes += result.outcomes
             for text in result.differences:
                 print(text, flush=True)
-    for command in (*COMMANDS, "hobs", "place", "truth"):
-        counts = [(it.partition(" ")[2], count) for it, count in sorted(outcomes.items()) if it.split()[0] == command]
-        print(f"{command}: " + ", ".join(f"{outcome}: {count}" for outcome, count in counts))
+    for command in dict.fromkeys(it[0] for it in outcomes):
+        counts = (f"{it[1]}: {count}" for it, count in sorted(outcomes.items()) if it[0] == command)
+        print(f"{command}: " + ", ".join(counts))
     for name in PLANTS if given.plants else ():
         print(f"plant {name}: " + (f"found after {found[name]} inputs" if name in found else "NOT FOUND"))
     figures = f"{asked} questions, {time.monotonic() - start:.0f} seconds, {wrong} differences"
     figures += f", {len(found)} of {len(PLANTS)} plants found" * given.plants
-    print(f"{inputs} inputs from {given.first}, seed {given.seed}: {figures}")
+    print(f"{tried} inputs from {first}, seed {given.seed}: {figures}")
     return 1 if wrong or given.plants and len(found) < len(PLANTS) else 0
 
 
@@ -277,11 +331,12 @@ def main() -> int:
     reader = argparse.ArgumentParser(description=__doc__)
     reader.add_argument("--count", type=int, default=1000, help="how many made inputs; each has three changes")
     reader.add_argument("--seed", type=int, default=int(time.time()), help="a number; by default the time")
-    reader.add_argument("--first", type=int, default=0, help="the number of the first made input")
+    reader.add_argument("--first", type=int, default=0, help="the number of the first made input; 0: rows come first")
     reader.add_argument("--jobs", type=int, default=os.cpu_count(), help="how many processes")
     reader.add_argument("--seconds", type=float, default=60, help="how long one run of the program may take")
     reader.add_argument("--keep", type=Path, default=KEPT, help="the folder for inputs with a difference")
-    reader.add_argument("--plants", action="store_true", help="also look for the planted misreadings")
+    plants: Any = argparse.BooleanOptionalAction
+    reader.add_argument("--plants", action=plants, default=False, help="also look for the planted misreadings")
     given = reader.parse_args()
     if not PROGRAM.exists() or not LIBRARY.exists():
         return skip_all("second", "all of it", "the program or the library is not built (./fvtool and libfv/build)")
