@@ -81,12 +81,12 @@ import time
 import kit
 import prove
 from tests.checks import ROOT
-from tests.mutants.crates import Checks, Crate, files_of, link_libraries
+from tests.mutants.crates import Checks, Crate, link_libraries
 from tests.mutants.edits import BAD, CACHE, REJECTED, TEXT, WEAK, Edit, Open, Try, applied, changed, files_of_edits
 from tests.mutants.edits import keep, key_of, read_edit, read_lists, write_goal, write_lists
-from tests.mutants.functions import can_be_broken, functions, promises
+from tests.mutants.functions import can_be_broken
 from tests.mutants.judge import Judge
-from tests.sources.definitions import calls
+from tests.mutants.unnamed import list_unnamed
 
 ROOM = 3_500_000  # the kB of memory that a check is expected to take
 
@@ -221,47 +221,6 @@ def run(names: list[str], given: argparse.Namespace, checks: Checks, room: pathl
             if not all(it.done() for it in runs):
                 checks.stop()
     return tell(tries, checks.count, sum(it.applied for it in crates))
-
-
-def named_in(crate: str, texts: dict[str, str]) -> dict[str, set[str]]:
-    """Returns the clauses that the goals of a crate's edits name, by the paths of their functions. Each edit of a
-    function counts as naming its only clause, which has no name here. The clauses of a trait's function are by its name:
-    the edits change the methods of the trait's `impl`s."""
-    named = collections.defaultdict[str, set[str]](set)
-    for edit in map(read_edit, files_of_edits(ROOT / "crates" / crate)):
-        clause = re.search(r"clause-([\w-]+)$", edit.goal)
-        owners = changed(edit, texts) or []
-        of_traits = [it.path.rpartition("::")[2] for it in owners if not promises(it, texts)]
-        for path in [*(it.path for it in owners), *of_traits, edit.of]:
-            named[path].add(clause[1] if clause else "")
-    return named
-
-
-def list_unnamed(crates: list[str]) -> int:
-    """Lists the `ensures` clauses of public functions that no edit's goal names, except the clauses that no body can
-    break. Returns the exit status."""
-    os.chdir(ROOT)
-    every, left = 0, 0
-    for crate in crates:
-        texts, count, lacking = files_of(ROOT / "crates" / crate), 0, list[str]()
-        named = named_in(crate, texts)
-        paths = {(it.file, it.first): it.path for file in texts if file.startswith("src/") for it in functions(file, texts)}
-        for call in calls(crate):
-            file = call.path.removeprefix(f"crates/{crate}/")
-            edits = named[paths.get((file, texts[file].count("\n", 0, call.start)), call.name)]
-            ensured = [it for it in call.clauses if it.is_ensured]
-            clauses = [it.name for it in ensured if it.is_of_outcome]
-            count += len(clauses)
-            place = f"{file.removeprefix('src/')}: {call.owner + '::' if call.owner else ''}{call.name}"
-            lacking += [
-                f"    {place}: {it or '(a clause without a name)'}"
-                for it in clauses
-                if it not in edits and (len(ensured) > 1 or not edits)
-            ]
-        print("\n".join([f"mutants: {crate}: {len(lacking)} of {count} clauses are in no edit's goal", *lacking]))
-        every, left = every + count, left + len(lacking)
-    print(f"mutants: {left} of {every} clauses of public functions that a body can break are in no edit's goal")
-    return 0
 
 
 def arguments() -> argparse.Namespace:

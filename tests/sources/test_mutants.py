@@ -8,6 +8,7 @@ from tests.frame import RoomCase
 from tests.mutants.crates import files_of
 from tests.mutants.edits import Change, Edit, changed, files_of_edits, read_edit
 from tests.mutants.functions import can_be_broken, functions
+from tests.mutants.unnamed import NO_BODY, unnamed_in
 from tests.sources.definitions import Clause
 
 MADE = """
@@ -96,3 +97,11 @@ class Goals(RoomCase):
                     owners = [paths[edit.of]] if edit.of else changed(edit, texts) or []
                     self.assertTrue(edit.goal)
                     self.assertTrue(can_be_broken(edit.goal, owners, texts), edit.goal)
+
+    def test_clauses(self) -> None:
+        """Each clause of a public function that a body can break is in the goal of a wrong body. NO_BODY has no clause
+        that is in a goal."""
+        crates = [it.parent.name for it in ROOT.glob("crates/*/mutants")]
+        lacking = [f"{crate}: {it}" for crate in crates for it in unnamed_in(crate, {})[0]]
+        self.assertEqual(sorted(set(lacking) - NO_BODY.keys()), [])
+        self.assertEqual(sorted(NO_BODY.keys() - set(lacking)), [])
