@@ -26,9 +26,9 @@ use Rattle.fv_head.proofs.HeadCheckLemmas.{front_found}
 use Rattle.fv_head.proofs.HeadPlaceLemmas.{kept_fields}
 use Rattle.fv_section.specs.Words.{FrameForm, BeginsFrame}
 use Rattle.fv_tree.specs.Words.{BodyFault, FileForm, InSection, InStream, NamesFault, NoStoredTwins, TopAtEnd, body_at, current_in, data_at, files_in}
-use Rattle.fv_tree.specs.Words.{group_kind, holds_sections, moved_fault, outermost, Accepted, FileMeanings, MeansFile, Pairwise, Stream, Volume, files_list}
+use Rattle.fv_tree.specs.Words.{group_kind, holds_sections, moved_fault, outermost, Accepted, FileMeanings, MeansFile, NoFiles, Pairwise, Stream, Volume, files_list}
 use Rattle.fv_tree.proofs.WholeInputLaws.{first_rejects}
-use Rattle.fv_canon.specs.Words.{Rejects, head}
+use Rattle.fv_canon.specs.Words.{Rejects, empty_volume, head, smallest_volume}
 
 -- ---- bytes
 
@@ -208,3 +208,21 @@ accepts n first h ms b read fields ext long names meanings =
       current = record { no_twins = names.0; files_are = refl; top = names.1 };
       meanings = meanings;
     })
+
+-- ---- volumes without files
+
+pub smallest_read : Accepted smallest_volume (Volume (head 72 None) NoFiles)
+unfolding all_are
+smallest_read =
+    let read : IsReadBy 0 (extent 72) smallest_volume = record { bytes = refl; header = refl; eighths = refl; cells = refl } in
+    let fields : IsReadAs (head 72 None) smallest_volume =
+    record { zero_vector = refl; volume_length = refl; attributes = refl; reserved = refl; blocks = refl } in
+    accepts 0 72 (head 72 None) NoFiles smallest_volume read fields (refl, refl) refl (tt, tt) tt
+
+pub empty_read : Accepted empty_volume (Volume (head 128 None) NoFiles)
+unfolding all_are
+empty_read =
+    let read : IsReadBy 0 (extent 128) empty_volume = record { bytes = refl; header = refl; eighths = refl; cells = refl } in
+    let fields : IsReadAs (head 128 None) empty_volume =
+    record { zero_vector = refl; volume_length = refl; attributes = refl; reserved = refl; blocks = refl } in
+    accepts 0 72 (head 128 None) NoFiles empty_volume read fields (refl, refl) refl (tt, tt) tt
