@@ -2,10 +2,10 @@
 -- 1. A first fault of the header rejects the input (`header_rejects`). If the header has no fault, a first fault of the
 --    body does (`body_rejects`), for example a fault of its first cell (`cell_rejects`).
 -- 2. Cells whose checks hold tile a body (`tiled`), so bytes whose header and cells are read are a volume (`accepts`).
-use Rattle.std.proofs.Common.{◌≡◌, ◌≤◌, ◌<◌, ◌%◌, ◌&&◌, ℕ, ◌+◌, ◌-◌, zero, suc, [], ◌∷◌, List, length, take, drop, refl, sym, ap, ◌∙◌, subst, arith, inl, inr}
-use Rattle.fv_base.proofs.Laws.{true, false, Bool, nat_lt, Option, None, Some, Ok, Err, AllByRecursion, append-nil, length-drop, length-take-le, take-append-drop}
-use Rattle.fv_base.proofs.Laws.{First, IsBytes, depth_limit, outer_fault, erased_byte, all_are, all_are-true, all-all_are, bytes_cons, first_is, and_split, ltb-true}
-use Rattle.fv_base.proofs.Laws.{up_is_not_down, field, le_at, slice_index, take_all}
+use Rattle.std.proofs.Common.{◌≡◌, ◌%◌, ◌&&◌, ℕ, ◌+◌, ◌-◌, zero, suc, [], ◌∷◌, List, length, take, drop, refl, sym, ap, subst, arith, inl, inr}
+use Rattle.fv_base.proofs.Laws.{true, false, Bool, nat_lt, Option, None, Some, Ok, append-nil, length-drop, length-take-le, take-append-drop}
+use Rattle.fv_base.proofs.Laws.{First, IsBytes, depth_limit, outer_fault, erased_byte, all_are, all_are-true, all-all_are, bytes_le_bytes, first_is, and_split, ltb-true}
+use Rattle.fv_base.proofs.Laws.{up_is_not_down, field, le, le_at, le_bytes, slice_index, take_all}
 use Rattle.fv_base.specs.declared.fault.Fault.{Fault}
 use Rattle.fv_base.specs.declared.fault.FaultKind.{FaultKind}
 use Rattle.fv_base.specs.declared.fault.Place.{Place}
@@ -13,7 +13,6 @@ use Rattle.fv_base.specs.declared.flash.FileSystem.{FileSystem}
 use Rattle.fv_base.specs.declared.flash.Polarity.{Polarity}
 use Rattle.fv_base.specs.inner.Verdicts.{first_fault}
 use Rattle.fv_base.specs.declared.fault.FaultKind.TheVariants as kinds
-use Rattle.std.specs.List.{list_all}
 use Rattle.std.specs.Option.{is_none}
 use Rattle.fv_file.specs.Words.{CellForm, Free, Tiles, cell_len, cell_checks, head_in, payload_at, state_at, state_of}
 use Rattle.fv_file.specs.declared.state.FileState.TheVariants.{DataValid}
@@ -32,10 +31,9 @@ use Rattle.fv_canon.specs.Words.{Rejects, empty_volume, head, smallest_volume}
 
 -- ---- bytes
 
--- numbers that are all below 256 are bytes
-pub small : (b : List ℕ) → list_all (λ x. nat_lt x 256) b ≡ true → IsBytes b
-small [] h = λ i. omega arith
-small (x ∷ b) h = let both = and_split _ _ h in bytes_cons x b (ltb-true x 256 both.0) (small b both.1)
+-- numbers that are the bytes of a number are bytes
+pub small : (b : List ℕ) → le_bytes (length b) (le b) ≡ b → IsBytes b
+small b same = subst IsBytes same (bytes_le_bytes (length b) (le b))
 
 -- ---- the header
 
@@ -53,12 +51,12 @@ header_rejects b kind at is = inl (first_rejects b _ (inl (_, first_is (head_che
 abbrev pub extent : ℕ → Extent
 extent n = extent_of (head n None) 72
 
-pub body_rejects : (b : List ℕ) (x : Extent) (e : Fault) → list_all (λ x. nat_lt x 256) b ≡ true → head_verdict b ≡ Ok x
+pub body_rejects : (b : List ℕ) (x : Extent) (e : Fault) → le_bytes (length b) (le b) ≡ b → head_verdict b ≡ Ok x
     → BodyFault First depth_limit (InStream First depth_limit) x e (take x.length b) outermost → Rejects b e
 body_rejects b x e bytes is bad = let front = front_found b x (small b bytes) is in inl (first_rejects b e (inr (_, x, front.1, bad)))
 
 -- the first cell of the body has a fault
-pub cell_rejects : (b : List ℕ) (x : Extent) (kind : FaultKind) (at : ℕ) → list_all (λ x. nat_lt x 256) b ≡ true → head_verdict b ≡ Ok x
+pub cell_rejects : (b : List ℕ) (x : Extent) (kind : FaultKind) (at : ℕ) → le_bytes (length b) (le b) ≡ b → head_verdict b ≡ Ok x
     → nat_lt 0 (length (drop x.first (take x.length b))) ≡ true → all_are (erased_byte x.polarity) (drop x.first (take x.length b)) ≡ false
     → first_fault (cell_checks x.file_system x.polarity (x.first + 0) (drop x.first (take x.length b)))
     ≡ Some (outer_fault kind at)
@@ -123,7 +121,7 @@ files_by n x b = files_in (cells_by n x.file_system x.polarity x.first (body_of_
 
 -- the header and the first n cells of the bytes are read, and the bytes after these cells are erased
 pub record IsReadBy (n : ℕ) (x : Extent) (b : List ℕ) : Type 0 where
-  pub bytes : list_all (λ y. nat_lt y 256) b ≡ true
+  pub bytes : le_bytes (length b) (le b) ≡ b
   pub header : head_verdict b ≡ Ok x
   pub eighths : length (body_of_extent x b) % 8 ≡ 0
   pub cells : hold_by n x.file_system x.polarity x.first (body_of_extent x b) ≡ true

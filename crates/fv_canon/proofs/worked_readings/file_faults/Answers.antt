@@ -5,7 +5,7 @@ use Rattle.fv_base.specs.declared.fault.FaultKind.TheVariants as kinds
 use Rattle.fv_file.specs.Words.{state_of}
 use Rattle.fv_section.specs.Words.{FrameForm}
 use Rattle.fv_tree.specs.Words.{top_name}
-use Rattle.fv_canon.specs.Words.{fault_at, file_bytes, file_header_bytes, nine_groups, volume_with}
+use Rattle.fv_canon.specs.Words.{file_bytes, file_header_bytes, nine_groups, volume_with}
 use Rattle.fv_canon.proofs.ReadingSteps.{deep_group, extent, file_at, file_rejects, in_group, names_reject, IsReadBy}
 use Rattle.fv_canon.proofs.worked_readings.file_faults.Goals as goal
 
