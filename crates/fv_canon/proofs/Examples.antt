@@ -8,8 +8,8 @@ use Rattle.fv_file.specs.Words.{header_bytes}
 use Rattle.fv_head.specs.Words.{Extension, HeadFields, canonical_head, head_spelled, ext_spelled}
 use Rattle.fv_tree.specs.Words.{Volume, NoFiles, MoreFiles, File, Plain, Sectioned, NoSections, MoreSections, Section, Leaf, Nested}
 use Rattle.fv_canon.specs.inner.ImageOf.{image_of}
-use Rattle.fv_canon.specs.Words.{stored_bytes, pad_bytes, gap_bytes, ext_pad}
-use Rattle.fv_canon.specs.WorkedInputs.{empty_volume, guid, head, head_bytes, file_header_bytes}
+use Rattle.fv_canon.specs.Words.{stored_bytes, pad_bytes, gap_bytes, ext_pad, empty_volume, head, head_bytes, file_header_bytes}
+use Rattle.fv_canon.proofs.ReadingSteps.{guid}
 use Rattle.fv_canon.proofs.PadLaws.{pads_rule}
 
 -- the image of a volume without files

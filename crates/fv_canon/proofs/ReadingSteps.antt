@@ -2,15 +2,17 @@
 -- 1. A first fault of the header rejects the input (`header_rejects`). If the header has no fault, a first fault of the
 --    body does (`body_rejects`), for example a fault of its first cell (`cell_rejects`).
 -- 2. Cells whose checks hold tile a body (`tiled`), so bytes whose header and cells are read are a volume (`accepts`).
-use Rattle.std.proofs.Common.{◌≡◌, ◌%◌, ◌&&◌, ℕ, ◌+◌, ◌-◌, zero, suc, [], ◌∷◌, List, length, take, drop, refl, sym, ap, subst, arith, inl, inr}
-use Rattle.fv_base.proofs.Laws.{true, false, Bool, nat_lt, Option, None, Some, Ok, append-nil, length-drop, length-take-le, take-append-drop}
-use Rattle.fv_base.proofs.Laws.{First, IsBytes, depth_limit, outer_fault, erased_byte, all_are, all_are-true, all-all_are, bytes_le_bytes, first_is, and_split, ltb-true}
+use Rattle.std.proofs.Common.{◌≡◌, ◌%◌, ◌&&◌, ℕ, ◌+◌, ◌∙◌, zero, suc, [], ◌∷◌, List, length, take, drop, refl, sym, ap, subst, arith, inl, inr}
+use Rattle.fv_base.proofs.Laws.{true, false, Bool, nat_lt, replicate, Option, None, Some, append-nil, length-drop, length-take-le, take-append-drop}
+use Rattle.fv_base.proofs.Laws.{First, IsBytes, depth_limit, outer_fault, erased_byte, all_are, all_are-true, all-all_are, bytes_le_bytes, first_is, not_first, and_split, ltb-true}
 use Rattle.fv_base.proofs.Laws.{up_is_not_down, field, le, le_at, le_bytes, slice_index, take_all}
 use Rattle.fv_base.specs.declared.fault.Fault.{Fault}
 use Rattle.fv_base.specs.declared.fault.FaultKind.{FaultKind}
 use Rattle.fv_base.specs.declared.fault.Place.{Place}
 use Rattle.fv_base.specs.declared.flash.FileSystem.{FileSystem}
+use Rattle.fv_base.specs.declared.flash.FileSystem.TheVariants.{Ffs2, Ffs3}
 use Rattle.fv_base.specs.declared.flash.Polarity.{Polarity}
+use Rattle.fv_base.specs.declared.guid.Guid.{Guid}
 use Rattle.fv_base.specs.inner.Verdicts.{first_fault}
 use Rattle.fv_base.specs.declared.fault.FaultKind.TheVariants as kinds
 use Rattle.std.specs.Option.{is_none}
@@ -18,15 +20,15 @@ use Rattle.fv_file.specs.Words.{CellForm, Free, Tiles, cell_len, cell_checks, he
 use Rattle.fv_file.specs.declared.state.FileState.TheVariants.{DataValid}
 use Rattle.fv_file.specs.inner.CellVerdicts.{cell_in}
 use Rattle.fv_file.proofs.CellFoundLemmas.{cell_stands}
-use Rattle.fv_head.specs.Words.{HeadFields, HasExt, extent_of, head_checks, header_len_of, pairs_of, volume_len_at}
+use Rattle.fv_head.specs.Words.{BeginsVolume, Extension, HasExt, HeadFields, extent_of, head_checks, header_len_at, pairs_of, system_guid}
+use Rattle.fv_head.specs.inner.HeadVerdicts.{extent_at}
+use Rattle.fv_head.proofs.Laws.{front_decided, front_extent}
 use Rattle.fv_head.specs.declared.extent.Extent.{Extent}
-use Rattle.fv_head.specs.inner.HeadVerdicts.{head_verdict}
-use Rattle.fv_head.proofs.HeadCheckLemmas.{front_found}
-use Rattle.fv_head.proofs.HeadPlaceLemmas.{kept_fields}
 use Rattle.fv_section.specs.Words.{FrameForm, BeginsFrame}
-use Rattle.fv_tree.specs.Words.{BodyFault, FileForm, InSection, InStream, NamesFault, NoStoredTwins, TopAtEnd, body_at, current_in, data_at, files_in}
+use Rattle.fv_tree.specs.Words.{BodyFault, FileForm, InSection, InStream, IsFirstOfVolume, NamesFault, NoStoredTwins, TopAtEnd, body_at, current_in, data_at, files_in}
 use Rattle.fv_tree.specs.Words.{group_kind, holds_sections, moved_fault, outermost, Accepted, FileMeanings, MeansFile, NoFiles, Pairwise, Stream, Volume, files_list}
-use Rattle.fv_tree.proofs.WholeInputLaws.{first_rejects}
+use Rattle.fv_tree.proofs.Laws.{volume_refused}
+use Rattle.fv_canon.proofs.RejectedInputLaws.{first_reads}
 use Rattle.fv_canon.specs.Words.{Rejects, empty_volume, head, smallest_volume}
 
 -- ---- bytes
@@ -34,6 +36,13 @@ use Rattle.fv_canon.specs.Words.{Rejects, empty_volume, head, smallest_volume}
 -- numbers that are the bytes of a number are bytes
 pub small : (b : List ℕ) → le_bytes (length b) (le b) ≡ b → IsBytes b
 small b same = subst IsBytes same (bytes_le_bytes (length b) (le b))
+
+-- bytes that have a first fault are rejected with it
+rejects : (b : List ℕ) (e : Fault) → IsFirstOfVolume b e → Rejects b e
+rejects b e first = elim (volume_refused b e (λ other. first)) [
+  | inl memory ↦ absurd (first_reads b e kinds.OutOfMemory refl (inl first) (ap (λ (f : Fault). f.kind) memory))
+  | inr bad ↦ inl bad
+]
 
 -- ---- the header
 
@@ -43,7 +52,7 @@ stays kind at = ap (outer_fault kind) (omega arith)
 
 pub header_rejects : (b : List ℕ) (kind : FaultKind) (at : ℕ) → first_fault (head_checks b) ≡ Some (outer_fault kind at)
     → Rejects b (outer_fault kind at)
-header_rejects b kind at is = inl (first_rejects b _ (inl (_, first_is (head_checks b) _ is, stays kind at)))
+header_rejects b kind at is = rejects b _ (inl (_, first_is (head_checks b) _ is, stays kind at))
 
 -- ---- the body
 
@@ -51,19 +60,38 @@ header_rejects b kind at is = inl (first_rejects b _ (inl (_, first_is (head_che
 abbrev pub extent : ℕ → Extent
 extent n = extent_of (head n None) 72
 
-pub body_rejects : (b : List ℕ) (x : Extent) (e : Fault) → le_bytes (length b) (le b) ≡ b → head_verdict b ≡ Ok x
+-- the header of a volume of FFS2 with this extent is read: no check of the header fails
+pub record IsFrontOf (x : Extent) (b : List ℕ) : Type 0 where
+  pub bytes : le_bytes (length b) (le b) ≡ b
+  pub checks : first_fault (head_checks b) ≡ None
+  pub file_system : field 16 16 (take (header_len_at b) b) ≡ system_guid Ffs2
+  pub extent_is : extent_at Ffs2 b ≡ x
+
+-- so the bytes begin with a volume of this extent
+begun : (x : Extent) (b : List ℕ) → IsFrontOf x b → (h : HeadFields) × BeginsVolume h x b
+begun x b is = elim (front_decided b (small b is.bytes)) [
+  | inr (f, first) ↦ absurd (not_first (head_checks b) f first is.checks)
+  | inl (e, h, front) ↦ let found = front_extent b h e front in (h, go found.0 h (subst (λ (y : Extent). BeginsVolume h y b) (sym found.1) front))
+] where
+  go : (s : FileSystem) (h : HeadFields) → BeginsVolume h (extent_at s b) b → BeginsVolume h x b
+  go Ffs2 h front = subst (λ (y : Extent). BeginsVolume h y b) is.extent_is front
+  go Ffs3 h front =
+      let same : system_guid Ffs2 ≡ system_guid Ffs3 = sym is.file_system ∙ front.head.file_system ∙ ap system_guid (sym front.file_system) in
+      absurd (omega (arith, ap (λ (l : List ℕ). slice_index l 0) same))
+
+-- the body has a fault
+pub body_rejects : (x : Extent) (b : List ℕ) (e : Fault) → IsFrontOf x b
     → BodyFault First depth_limit (InStream First depth_limit) x e (take x.length b) outermost → Rejects b e
-body_rejects b x e bytes is bad = let front = front_found b x (small b bytes) is in inl (first_rejects b e (inr (_, x, front.1, bad)))
+body_rejects x b e is bad = let front = begun x b is in rejects b e (inr (front.0, x, front.1, bad))
 
 -- the first cell of the body has a fault
-pub cell_rejects : (b : List ℕ) (x : Extent) (kind : FaultKind) (at : ℕ) → le_bytes (length b) (le b) ≡ b → head_verdict b ≡ Ok x
-    → nat_lt 0 (length (drop x.first (take x.length b))) ≡ true → all_are (erased_byte x.polarity) (drop x.first (take x.length b)) ≡ false
-    → first_fault (cell_checks x.file_system x.polarity (x.first + 0) (drop x.first (take x.length b)))
-    ≡ Some (outer_fault kind at)
+pub cell_rejects : (x : Extent) (b : List ℕ) (kind : FaultKind) (at : ℕ) → IsFrontOf x b → nat_lt 0 (length (drop x.first (take x.length b))) ≡ true
+    → all_are (erased_byte x.polarity) (drop x.first (take x.length b)) ≡ false
+    → first_fault (cell_checks x.file_system x.polarity (x.first + 0) (drop x.first (take x.length b))) ≡ Some (outer_fault kind at)
     → Rejects b (outer_fault kind at)
-cell_rejects b x kind at bytes is some used fails =
+cell_rejects x b kind at is some used fails =
     let body : List ℕ = drop x.first (take x.length b) in
-    body_rejects b x _ bytes is (inl (_, inl (record {
+    body_rejects x b _ is (inl (_, inl (record {
       cells = [];
       at = 0;
       tiled = refl;
@@ -121,8 +149,7 @@ files_by n x b = files_in (cells_by n x.file_system x.polarity x.first (body_of_
 
 -- the header and the first n cells of the bytes are read, and the bytes after these cells are erased
 pub record IsReadBy (n : ℕ) (x : Extent) (b : List ℕ) : Type 0 where
-  pub bytes : le_bytes (length b) (le b) ≡ b
-  pub header : head_verdict b ≡ Ok x
+  pub front : IsFrontOf x b
   pub eighths : length (body_of_extent x b) % 8 ≡ 0
   pub cells : hold_by n x.file_system x.polarity x.first (body_of_extent x b) ≡ true
 
@@ -134,14 +161,14 @@ file_at p b = record { offset = p; head = head_in DataValid (drop p b); payload 
 pub names_reject : (n : ℕ) (x : Extent) (b : List ℕ) (kind : FaultKind) (at : ℕ) → IsReadBy n x b
     → NamesFault First x.length (files_by n x b) (outer_fault kind at) → Rejects b (outer_fault kind at)
 names_reject n x b kind at read bad =
-    body_rejects b x _ read.bytes read.header (inl (_, inr (_, tiled n _ _ _ _ read.eighths read.cells, bad), stays kind at))
+    body_rejects x b _ read.front (inl (_, inr (_, tiled n _ _ _ _ read.eighths read.cells, bad), stays kind at))
 
 -- the only file holds sections, and they have a fault
 pub file_rejects : (n : ℕ) (x : Extent) (b : List ℕ) (e : Fault) (f : FileForm) → IsReadBy n x b
     → NoStoredTwins (files_by n x b) × TopAtEnd x.length (current_in (files_by n x b)) → current_in (files_by n x b) ≡ f ∷ []
     → holds_sections f.head.kind ≡ true → InStream First depth_limit e f.payload (data_at outermost f) → Rejects b e
 file_rejects n x b e f read names only holds bad =
-    body_rejects b x e read.bytes read.header
+    body_rejects x b e read.front
     (inr (_, tiled n _ _ _ _ read.eighths read.cells, names, ([], f, [], only, ([], tt), (holds, bad))))
 
 -- ---- groups
@@ -176,32 +203,70 @@ deep_group k body at size short = one_group 0 _ k body at size short (inl refl, 
 
 -- ---- volumes
 
--- the fields of the header are read at their offsets
-pub record IsReadAs (h : HeadFields) (b : List ℕ) : Type 0 where
-  pub zero_vector : h.zero_vector ≡ field 0 16 b
-  pub volume_length : h.length ≡ volume_len_at b
-  pub attributes : h.attributes ≡ le_at 44 4 b
-  pub reserved : h.reserved ≡ slice_index b 54
-  pub blocks : h.blocks ≡ pairs_of (field 56 (header_len_of h - 64) b)
+-- the fields of `head` are read in the first 72 bytes
+pub record IsHeadOf (length : ℕ) (b : List ℕ) : Type 0 where
+  pub zero_vector : field 0 16 (take 72 b) ≡ replicate 16 0
+  pub file_system : field 16 16 (take 72 b) ≡ system_guid Ffs2
+  pub volume_length : le_at 32 8 (take 72 b) ≡ length
+  pub attributes : le_at 44 4 (take 72 b) ≡ 0x4feff
+  pub reserved : slice_index (take 72 b) 54 ≡ 0
+  pub block_map : pairs_of (drop 56 (take 72 b)) ≡ (1, length) ∷ (0, 0) ∷ []
+
+-- so the bytes begin with a volume that has these fields
+begins : (n first : ℕ) (ext : Option Extension) (b : List ℕ) → IsFrontOf (extent_of (head n ext) first) b → IsHeadOf n b
+    → HasExt ext (extent_of (head n ext) first) b
+    → BeginsVolume (head n ext) (extent_of (head n ext) first) b
+begins n first ext b is fields there =
+    let front = (begun (extent_of (head n ext) first) b is).1 in
+    let same = sym front.head.volume_length ∙ fields.volume_length in
+    record {
+      head = record {
+        bytes = front.head.bytes;
+        zero_vector = fields.zero_vector;
+        file_system = fields.file_system;
+        volume_length = fields.volume_length;
+        signature = front.head.signature;
+        attributes = fields.attributes;
+        header_length = front.head.header_length;
+        reserved = fields.reserved;
+        revision = front.head.revision;
+        block_map = fields.block_map;
+        no_pair_of_zeros = (λ zeros. omega (arith, ap (λ (p : ℕ × ℕ). p.0) zeros), tt);
+        sum = front.head.sum;
+        multiple = front.head.multiple;
+        least = front.head.least;
+        most = front.head.most;
+        makes_up = omega arith;
+        volume_multiple = omega (arith, same, front.head.volume_multiple);
+        volume_least = omega (arith, same, front.head.volume_least);
+        volume_most = omega (arith, same, front.head.volume_most);
+      };
+      long_enough = front.long_enough;
+      is_within = front.is_within;
+      ext = there;
+      length_is = refl;
+      file_system = refl;
+      polarity = refl;
+    }
 
 -- bytes whose header, cells and files are read are a volume
-pub accepts : (n first : ℕ) (h : HeadFields) (ms : FileMeanings) (b : List ℕ) → IsReadBy n (extent_of h first) b → IsReadAs h b
-    → HasExt h.ext (extent_of h first) b → length b ≡ h.length
-    → NoStoredTwins (files_by n (extent_of h first) b) × TopAtEnd h.length (current_in (files_by n (extent_of h first) b))
-    → Pairwise (MeansFile (Stream depth_limit)) (current_in (files_by n (extent_of h first) b)) (files_list ms)
-    → Accepted b (Volume h ms)
-accepts n first h ms b read fields ext long names meanings =
-    let x : Extent = extent_of h first in
-    let bytes = small b read.bytes in
+pub accepts : (n length_is first : ℕ) (ext : Option Extension) (ms : FileMeanings) (b : List ℕ)
+    → IsReadBy n (extent_of (head length_is ext) first) b → IsHeadOf length_is b → HasExt ext (extent_of (head length_is ext) first) b
+    → length b ≡ length_is
+    → NoStoredTwins (files_by n (extent_of (head length_is ext) first) b)
+    × TopAtEnd length_is (current_in (files_by n (extent_of (head length_is ext) first) b))
+    → Pairwise (MeansFile (Stream depth_limit)) (current_in (files_by n (extent_of (head length_is ext) first) b)) (files_list ms)
+    → Accepted b (Volume (head length_is ext) ms)
+accepts n length_is first ext ms b read fields there long names meanings =
+    let x : Extent = extent_of (head length_is ext) first in
+    let cells : List CellForm = cells_by n x.file_system x.polarity first (body_of_extent x b) in
     let tiles = tiled n x.file_system x.polarity first (body_of_extent x b) read.eighths read.cells in
-    (bytes, record {
+    (small b read.front.bytes, record {
       extent = x;
-      begins = kept_fields b x h.zero_vector h.length h.attributes h.reserved h.blocks h.ext (_, (front_found b x bytes read.header).1) fields.zero_vector
-          fields.volume_length fields.attributes fields.reserved fields.blocks ext;
+      begins = begins length_is first ext b read.front fields there;
       length_is = long;
-      cells = cells_by n x.file_system x.polarity first (body_of_extent x b);
-      tiles = subst (λ (c : List ℕ). Tiles x.file_system x.polarity first (cells_by n x.file_system x.polarity first (body_of_extent x b)) (drop first c))
-          (take_all h.length b (omega (arith, long))) tiles;
+      cells = cells;
+      tiles = subst (λ (c : List ℕ). Tiles x.file_system x.polarity first cells (drop first c)) (take_all length_is b (omega (arith, long))) tiles;
       files = current_in (files_by n x b);
       current = record { no_twins = names.0; files_are = refl; top = names.1 };
       meanings = meanings;
@@ -209,18 +274,18 @@ accepts n first h ms b read fields ext long names meanings =
 
 -- ---- volumes without files
 
+-- the GUID whose 16 bytes are all n
+abbrev pub guid : ℕ → Guid
+guid n = record { bytes = replicate 16 n }
+
 pub smallest_read : Accepted smallest_volume (Volume (head 72 None) NoFiles)
 unfolding all_are
 smallest_read =
-    let read : IsReadBy 0 (extent 72) smallest_volume = record { bytes = refl; header = refl; eighths = refl; cells = refl } in
-    let fields : IsReadAs (head 72 None) smallest_volume =
-    record { zero_vector = refl; volume_length = refl; attributes = refl; reserved = refl; blocks = refl } in
-    accepts 0 72 (head 72 None) NoFiles smallest_volume read fields (refl, refl) refl (tt, tt) tt
+    accepts 0 72 72 None NoFiles smallest_volume (record { front = record { bytes = refl; checks = refl; file_system = refl; extent_is = refl }; eighths = refl; cells = refl })
+    (record { zero_vector = refl; file_system = refl; volume_length = refl; attributes = refl; reserved = refl; block_map = refl }) (refl, refl) refl (tt, tt) tt
 
 pub empty_read : Accepted empty_volume (Volume (head 128 None) NoFiles)
 unfolding all_are
 empty_read =
-    let read : IsReadBy 0 (extent 128) empty_volume = record { bytes = refl; header = refl; eighths = refl; cells = refl } in
-    let fields : IsReadAs (head 128 None) empty_volume =
-    record { zero_vector = refl; volume_length = refl; attributes = refl; reserved = refl; blocks = refl } in
-    accepts 0 72 (head 128 None) NoFiles empty_volume read fields (refl, refl) refl (tt, tt) tt
+    accepts 0 128 72 None NoFiles empty_volume (record { front = record { bytes = refl; checks = refl; file_system = refl; extent_is = refl }; eighths = refl; cells = refl })
+    (record { zero_vector = refl; file_system = refl; volume_length = refl; attributes = refl; reserved = refl; block_map = refl }) (refl, refl) refl (tt, tt) tt

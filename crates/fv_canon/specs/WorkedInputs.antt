@@ -3,13 +3,8 @@ use Rattle.std.specs.Prelude.{ℕ, ◌+◌, List, [], ◌∷◌, ◌++◌, lengt
 use Rattle.fv_base.specs.declared.fault.Fault.{Fault}
 use Rattle.fv_base.specs.declared.fault.FaultKind.{FaultKind}
 use Rattle.fv_base.specs.declared.flash.FileSystem.TheVariants.{Ffs2}
-use Rattle.fv_base.specs.declared.guid.Guid.{Guid}
 use Rattle.fv_head.specs.Words.{Extension, HeadFields}
 use Rattle.fv_tree.specs.Words.{top_name}
-
--- the GUID whose 16 bytes are all n
-abbrev pub guid : ℕ → Guid
-guid n = record { bytes = replicate 16 n }
 
 -- the header fields of a volume of n bytes: FFS2, one block of n bytes, erased bytes are 0xFF
 abbrev pub head : ℕ → Option Extension → HeadFields

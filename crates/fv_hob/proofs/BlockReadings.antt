@@ -3,7 +3,7 @@ use Rattle.std.proofs.Common.{◌≡◌, ◌+◌, ◌*◌, ◌^◌, ◌++◌, �
 use Rattle.fv_base.proofs.Laws.{AllByRecursion, IsBytes, bytes_append, bytes_le_bytes, bytes_replicate, first_is, le_bytes, replicate}
 use Rattle.fv_base.specs.inner.Verdicts.{first_fault}
 use Rattle.fv_hob.specs.Words.{BeginWithTable, HobForm, IsBlock, IsFirstHobFault, IsHob, IsNotEndHob, JoinsHobs, hob_checks}
-use Rattle.fv_hob.specs.WorkedInputs.{end_block, end_bytes, hob_fault_at, table, table_bytes}
+use Rattle.fv_hob.specs.Words.{end_block, end_bytes, hob_fault_at, table, table_bytes}
 use Rattle.fv_hob.specs.declared.fault.HobFaultKind.{HobFaultKind}
 
 -- the bytes of a number are bytes

@@ -1,6 +1,6 @@
 use Rattle.std.proofs.Common.{[], inl, refl}
 use Rattle.fv_depex.specs.Words.{installed, negated}
-use Rattle.fv_depex.specs.WorkedInputs.{guid}
+use Rattle.fv_depex.specs.Words.{guid}
 use Rattle.fv_depex.proofs.worked_readings.accepted_expression.Goals as goal
 
 pub returns-clause-spells : goal.returns-clause-spells

@@ -2,7 +2,7 @@ use Rattle.std.proofs.Common.{[], ◌∷◌, ◌++◌, ◌≡◌, List, ℕ, Som
 use Rattle.fv_base.proofs.Laws.{first_is}
 use Rattle.fv_base.specs.inner.Verdicts.{first_fault}
 use Rattle.fv_depex.specs.Words.{IsFirstOpFault, OpPath, op_checks, ops_bytes}
-use Rattle.fv_depex.specs.WorkedInputs.{depex_fault_at, late_before}
+use Rattle.fv_depex.specs.Words.{depex_fault_at, late_before}
 use Rattle.fv_depex.specs.declared.fault.DepexFaultKind.{DepexFaultKind}
 use Rattle.fv_depex.specs.declared.op.Op.{Op}
 use Rattle.fv_depex.specs.declared.op.Op.TheVariants as ops

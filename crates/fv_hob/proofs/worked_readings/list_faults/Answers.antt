@@ -1,6 +1,6 @@
 use Rattle.std.proofs.Common.{[], ◌∷◌, refl, take}
 use Rattle.fv_base.proofs.Laws.{arith}
-use Rattle.fv_hob.specs.WorkedInputs.{end_bytes, header_of_12, long_table, table, table_bytes}
+use Rattle.fv_hob.specs.Words.{end_bytes, header_of_12, long_table, table, table_bytes}
 use Rattle.fv_hob.proofs.BlockReadings.{fault_after, table_is}
 use Rattle.fv_hob.proofs.worked_readings.list_faults.Goals as goal
 

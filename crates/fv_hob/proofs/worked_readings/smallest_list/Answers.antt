@@ -1,6 +1,6 @@
 use Rattle.std.proofs.Common.{[], ◌∷◌, refl}
 use Rattle.fv_base.proofs.Laws.{arith}
-use Rattle.fv_hob.specs.WorkedInputs.{end_block, end_bytes, table, table_bytes}
+use Rattle.fv_hob.specs.Words.{end_block, end_bytes, table, table_bytes}
 use Rattle.fv_hob.proofs.BlockReadings.{end_is, table_is}
 use Rattle.fv_hob.proofs.worked_readings.smallest_list.Goals as goal
 
