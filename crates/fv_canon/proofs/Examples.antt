@@ -8,36 +8,12 @@ use Rattle.fv_file.specs.Words.{header_bytes}
 use Rattle.fv_head.specs.Words.{Extension, HeadFields, canonical_head, head_spelled, ext_spelled}
 use Rattle.fv_tree.specs.Words.{Volume, NoFiles, MoreFiles, File, Plain, Sectioned, NoSections, MoreSections, Section, Leaf, Nested}
 use Rattle.fv_canon.specs.inner.ImageOf.{image_of}
-use Rattle.fv_canon.specs.Words.{stored_bytes, pad_bytes, gap_bytes, ext_pad}
+use Rattle.fv_canon.specs.Words.{stored_bytes, pad_bytes, gap_bytes, ext_pad, empty_volume, head, head_bytes, file_header_bytes}
+use Rattle.fv_canon.proofs.ReadingSteps.{guid}
 use Rattle.fv_canon.proofs.PadLaws.{pads_rule}
 
-abbrev guid : ℕ → Guid
-guid n = record { bytes = replicate 16 n }
-
-abbrev head : ℕ → Option Extension → HeadFields
-head n ext = record {
-  zero_vector = replicate 16 0;
-  file_system = Ffs2;
-  length = n;
-  attributes = 0x4feff;
-  reserved = 0;
-  blocks = (1, n) ∷ [];
-  ext = ext;
-}
-
--- the 72 bytes of a volume header, with the given bytes of its length, its checksum and its ExtHeaderOffset
-abbrev head_bytes : List ℕ → ℕ → ℕ → ℕ → List ℕ
-head_bytes n c d offset =
-    replicate 16 0 ++ ((0x78 ∷ 0xe5 ∷ 0x8c ∷ 0x8c ∷ 0x3d ∷ 0x8a ∷ 0x1c ∷ 0x4f ∷ 0x99 ∷ 0x35 ∷ 0x89 ∷ 0x61 ∷ 0x85 ∷ 0xc3 ∷ 0x2d ∷ 0xd3 ∷ [])
-    ++ ((n ++ replicate 4 0)
-    ++ ((0x5f ∷ 0x46 ∷ 0x56 ∷ 0x48 ∷ 0xff ∷ 0xfe ∷ 4 ∷ 0 ∷ 0x48 ∷ 0 ∷ c ∷ d ∷ offset ∷ 0 ∷ 0 ∷ 2 ∷ 1 ∷ 0 ∷ 0 ∷ 0 ∷ []) ++ (n ++ replicate 8 0))))
-
--- the header of a file
-abbrev file_header_bytes : ℕ → ℕ → ℕ → ℕ → ℕ → ℕ → List ℕ
-file_header_bytes n hs fs kind attributes size = replicate 16 n ++ (hs ∷ fs ∷ kind ∷ attributes ∷ size ∷ 0 ∷ 0 ∷ 0xf8 ∷ [])
-
 -- the image of a volume without files
-empty_image : image_of (Volume (head 128 None) NoFiles) [] ≡ head_bytes (128 ∷ 0 ∷ 0 ∷ 0 ∷ []) 0xce 0xf5 0 ++ replicate 56 0xff
+empty_image : image_of (Volume (head 128 None) NoFiles) [] ≡ empty_volume
 unfolding canonical_head head_spelled ext_pad
 empty_image = refl
 
@@ -61,7 +37,7 @@ sections_image = refl
 nested_image : image_of (Volume (head 256 None) (MoreFiles (File (guid 0x0a) 0x0b 0
     (Sectioned (MoreSections (Section 0x17 false (Nested (Volume (head 128 None) NoFiles))) NoSections) 0)) NoFiles)) (72 ∷ [])
     ≡ head_bytes (0 ∷ 1 ∷ 0 ∷ 0 ∷ []) 0xce 0xf4 0 ++ (file_header_bytes 0x0a 0xb9 0xaa 0x0b 0 156
-    ++ ((0x84 ∷ 0 ∷ 0 ∷ 0x17 ∷ []) ++ ((head_bytes (128 ∷ 0 ∷ 0 ∷ 0 ∷ []) 0xce 0xf5 0 ++ replicate 56 0xff) ++ replicate 28 0xff)))
+    ++ ((0x84 ∷ 0 ∷ 0 ∷ 0x17 ∷ []) ++ (empty_volume ++ replicate 28 0xff)))
 unfolding canonical_head head_spelled ext_pad header_bytes stored_bytes pad_bytes gap_bytes
 nested_image = refl
 

@@ -28,6 +28,7 @@ pub mod PartLengthLaws
 pub mod PlacedBytesLaws
 pub mod PositionLaws
 pub mod ReadLaws
+pub mod ReadingSteps
 pub mod RejectedInputLaws
 pub mod RenewedPlaceLaws
 pub mod RenewedStaysLaws

@@ -13,5 +13,6 @@ pub mod RenewedImages
 pub mod ImageChecks
 pub mod NormaliseRuns
 pub mod PartDigests
+pub mod WorkedInputs
 pub mod Words
 pub mod inner

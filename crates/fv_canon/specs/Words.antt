@@ -21,3 +21,5 @@ pub use Rattle.fv_canon.specs.ImageChecks.{IsOtherThanImage, HasOutcome, IsCheck
 pub use Rattle.fv_canon.specs.ImageChecks.{AreCanonical, CanonicalImagesStay}
 pub use Rattle.fv_canon.specs.NormaliseRuns.{NormalisingStops, RunWrites, RunStops}
 pub use Rattle.fv_canon.specs.PartDigests.{VolumeDigest, FileDigest, BodyDigest, NodeDigest}
+pub use Rattle.fv_canon.specs.WorkedInputs.{head, head_bytes, file_bytes, file_header_bytes, fault_at, changed}
+pub use Rattle.fv_canon.specs.WorkedInputs.{smallest_volume, empty_volume, volume_with, long_header, nine_groups, no_room_for_pad, misaligned_top}

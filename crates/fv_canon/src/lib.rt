@@ -1,8 +1,8 @@
 //! Computes the canonical image of a firmware volume and its layout, which says where the files of
 //! the image begin. The crate does the same for each volume of a flash image, and writes images to
 //! a port. `whole_volume` comes from fv_tree, and `run_compare` and `Side` from fv_compare. The
-//! calls of the modules `headline` and `further_laws` do nothing: their contracts are laws, among
-//! them the headline.
+//! calls of the modules `headline`, `further_laws` and `worked_readings` do nothing: their contracts
+//! are laws, among them the headline, and worked readings of small inputs.
 #![tactic(auto)]
 
 mod canonical_image;
@@ -20,6 +20,7 @@ mod normalising;
 mod pads_and_headers;
 mod parts;
 mod summing_sink;
+pub mod worked_readings;
 
 pub use canonical_image::{canonical, put_canonical, write_canonical};
 pub use canonical_input::{is_canonical, is_canonical_image};

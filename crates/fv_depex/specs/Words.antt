@@ -6,3 +6,4 @@ pub use Rattle.fv_depex.specs.Expressions.{is_among, truth, DepexForm, IsReadDep
 pub use Rattle.fv_depex.specs.OpChecks.{has_code, has_position, has_values, holds_values, has_operand, op_check, op_checks}
 pub use Rattle.fv_depex.specs.OpChecks.{values_after, values_of, stage_after, OpFits, BeginsOp, BeginsFirstOp, OpPath}
 pub use Rattle.fv_depex.specs.OpChecks.{IsFirstOpFault, depex_out_of_memory, depex_fault_number}
+pub use Rattle.fv_depex.specs.WorkedInputs.{guid, not_installed, late_before, depex_fault_at}

@@ -9,6 +9,7 @@ mod op_stage;
 mod opcode;
 mod read;
 mod truth;
+pub mod worked_readings;
 mod write;
 
 pub use depex::Depex;

@@ -20,6 +20,8 @@ pub use Rattle.fv_file.proofs.TiledCellLemmas.{cells_few}
 pub use Rattle.fv_file.proofs.TiledCellLemmas.{IsPayloadIn, tiled_payloads, body_payloads}
 -- Each valid file in a tiling of bytes meets the conditions of `FileRead`.
 pub use Rattle.fv_file.proofs.TiledCellLemmas.{IsRead, tiles_read}
+-- If the checks of a cell hold, the cell that is read begins the bytes.
+pub use Rattle.fv_file.proofs.CellFoundLemmas.{CellStandsAt, cell_stands}
 -- ---- a file
 
 -- The data of a file are after its header. A valid file in bytes meets the conditions of `FileRead`.

@@ -1,4 +1,5 @@
 pub mod BlockKindLemmas
+pub mod BlockReadings
 pub mod DecidedListLemmas
 pub mod HobCheckLemmas
 pub mod HobImageLemmas

@@ -2,4 +2,5 @@
 pub mod Hobs
 pub mod Lists
 pub mod HobChecks
+pub mod WorkedInputs
 pub mod Words

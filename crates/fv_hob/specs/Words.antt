@@ -7,3 +7,4 @@ pub use Rattle.fv_hob.specs.Lists.{JoinsHobs, IsEndHob, IsNotEndHob, BeginWithTa
 pub use Rattle.fv_hob.specs.Lists.{span_of, spans_of}
 pub use Rattle.fv_hob.specs.HobChecks.{is_hob_len, hob_check, hob_checks, BeginsBlock, BeginsTable, IsFirstHobFault}
 pub use Rattle.fv_hob.specs.HobChecks.{hob_out_of_memory, hob_fault_number}
+pub use Rattle.fv_hob.specs.WorkedInputs.{table, table_bytes, end_block, end_bytes, header_of_12, long_table, hob_fault_at}

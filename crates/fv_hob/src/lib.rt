@@ -11,6 +11,7 @@ mod hob_type;
 mod offsets;
 mod read;
 mod span;
+pub mod worked_readings;
 mod write;
 
 pub use fault::{HobFault, HobFaultKind};

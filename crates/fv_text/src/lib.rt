@@ -10,6 +10,7 @@ mod hex_text;
 mod lent_sink;
 mod numbers;
 mod white_space;
+pub mod worked_readings;
 
 pub use gathering::GatheringSink;
 pub use hex_lines::{HexSink, put_shown};

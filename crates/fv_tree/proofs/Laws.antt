@@ -20,8 +20,8 @@ pub use Rattle.fv_tree.proofs.DepthLaws.{nests_files, nests_content, nests_secti
 
 -- bytes that begin with a volume begin with its header
 pub use Rattle.fv_tree.proofs.VolumePartLaws.{front_of}
--- bytes are a volume of at most one meaning
-pub use Rattle.fv_tree.proofs.MeaningLaws.{one_meaning}
+-- bytes are a volume of at most one meaning, and begin with at most one volume
+pub use Rattle.fv_tree.proofs.MeaningLaws.{one_meaning, one_beginning}
 -- two current files at different places have different names; having the same name is symmetric
 pub use Rattle.fv_tree.proofs.TwinLaws.{names_differ}
 pub use Rattle.fv_tree.proofs.NamesFaultLaws.{same_name_back}
