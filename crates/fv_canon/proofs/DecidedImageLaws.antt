@@ -1,8 +1,9 @@
--- A flash image within the limit has a renewed image, or one of its volumes is rejected, and never both. The steps:
+-- A flash image has a renewed image, or it is longer than the limit or one of its volumes is rejected, and never both. The
+-- steps:
 -- 1. If each volume that a walk finds has a canonical image, the renewed image is joined from them (`build`).
 -- 2. Otherwise the first volume without an image is rejected (`images`).
 use Rattle.std.proofs.Common.{◌≡◌, ◌⊎◌, ◌≤◌, ◌+◌, ◌-◌, ℕ, [], ◌∷◌, ◌++◌, List, length, drop}
-use Rattle.fv_base.proofs.Laws.{AllByRecursion, drop_at, IsBytes, bytes_drop, bytes_take, volume_limit}
+use Rattle.fv_base.proofs.Laws.{AllByRecursion, cases_lt, drop_at, IsBytes, bytes_drop, bytes_take, outer_fault, volume_limit}
 use Rattle.fv_base.proofs.Laws.{field, in_middle, refl, sym, ap, ◌∙◌, subst, arith, inl, inr, append_assoc, length-append, length-drop, length-take-le}
 use Rattle.fv_base.specs.declared.fault.Fault.{Fault}
 use Rattle.fv_flash.specs.inner.FoundWalks.{FoundFrom}
@@ -12,6 +13,7 @@ use Rattle.fv_canon.specs.Words.{NormalisesTo, FirstRejected, HasImageAt, IsNorm
 use Rattle.fv_canon.proofs.ImageLaws.{every_input, never_both}
 use Rattle.fv_canon.proofs.HeadlineLaws.{image_keeps_length_and_meaning}
 use Rattle.fv_canon.proofs.FlashImageLaws.{RenewsFrom, renewed_is, renews_more}
+use Rattle.fv_base.specs.declared.fault.FaultKind.TheVariants as kinds
 
 -- ---- each volume has an image
 
@@ -61,15 +63,18 @@ images b small from (o ∷ os) (n, (l, e, none, v), walk) = elim (every_input (f
   ]
 ]
 
-pub every_image : (b : List ℕ) → IsBytes b → length b ≤ volume_limit → ((o : List ℕ) × NormalisesAll b o) ⊎ ((f : Fault) × RejectsAll b f)
-every_image b small short =
-    let (os, walk) = found_walk_exists b small in
-    elim (images b small 0 os walk) [
-      | inl all ↦
-          let (o, renews, whole) = build b 0 os [] refl (omega arith) walk all in
-          inl (o, (short, os, walk_found b os walk, renewed_is b os o renews whole))
-      | inr (f, r) ↦ inr (f, inr (short, os, walk_found b os walk, r))
-    ]
+pub every_image : (b : List ℕ) → IsBytes b → ((o : List ℕ) × NormalisesAll b o) ⊎ ((f : Fault) × RejectsAll b f)
+every_image b small = elim (cases_lt volume_limit (length b)) [
+  | inl long ↦ inr (outer_fault kinds.Length volume_limit, inl (long, refl))
+  | inr short ↦
+      let (os, walk) = found_walk_exists b small in
+      elim (images b small 0 os walk) [
+        | inl all ↦
+            let (o, renews, whole) = build b 0 os [] refl (omega arith) walk all in
+            inl (o, (short, os, walk_found b os walk, renewed_is b os o renews whole))
+        | inr (f, r) ↦ inr (f, inr (short, os, walk_found b os walk, r))
+      ]
+]
 
 pub never_image : (b o : List ℕ) (f : Fault) → NormalisesAll b o → RejectsAll b f → ⊥
 never_image b o f (short, places, found, r) (inl (long, is)) = omega (arith, short, long)

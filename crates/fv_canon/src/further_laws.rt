@@ -1,10 +1,10 @@
 //! Further laws of layouts and canonical images, over the definitions. None of these functions does
 //! anything: their contracts are the laws.
 
-ghost use Rattle.std.specs.Prelude.{◌↔◌, ◌≡◌, ◌⊎◌, ◌≤◌, List, ℕ, length};
+ghost use Rattle.std.specs.Prelude.{◌↔◌, ◌≡◌, ◌⊎◌, List, ℕ};
 ghost use Rattle.fv_base.specs.declared.fault.Fault.{Fault};
 ghost use Rattle.fv_tree.specs.Words.{Accepted, Meaning, NotRead};
-ghost use Rattle.fv_base.specs.Words.{IsBytes, volume_limit};
+ghost use Rattle.fv_base.specs.Words.{IsBytes};
 ghost use Rattle.fv_flash.specs.Words.{Found};
 ghost use Rattle.fv_canon.specs.FlashImages.{NormalisesAll, RejectsAll};
 ghost use Rattle.fv_canon.specs.Headline.{MeanSame, NormalisesTo};
@@ -102,10 +102,10 @@ pub fn one_rejection()
     ensures { (input : List ℕ) (f g : Fault) → Rejects input f → Rejects input g → f ≡ g }
 {}
 
-/// A flash image within the limit has a renewed image, in which each volume is replaced by its
-/// canonical image, or it is rejected, and never both.
+/// A flash image has a renewed image, in which each volume is replaced by its canonical image, or it
+/// is rejected, and never both.
 pub fn every_image()
-    ensures either { (b : List ℕ) → IsBytes b → length b ≤ volume_limit
+    ensures either { (b : List ℕ) → IsBytes b
         → ((renewed : List ℕ) × NormalisesAll b renewed) ⊎ ((f : Fault) × RejectsAll b f) }
     ensures never { (b renewed : List ℕ) (f : Fault) → NormalisesAll b renewed → RejectsAll b f → ⊥ }
 {}

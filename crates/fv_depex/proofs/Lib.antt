@@ -1,3 +1,4 @@
+pub mod DecidedExpressionLemmas
 pub mod Laws
 pub mod OpLemmas
 pub mod OpReadLemmas

@@ -4,6 +4,7 @@
 
 mod depex;
 mod fault;
+pub mod further_laws;
 mod op;
 mod op_stage;
 mod opcode;

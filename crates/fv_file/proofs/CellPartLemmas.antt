@@ -1,7 +1,7 @@
 -- A cell has as many bytes as its fields say (`cell_span`), and has at least one byte (`not_empty`). The header and the
 -- data of a file make up its size (`made_up`). All bytes of a free cell are erased (`free_all`).
 use Rattle.std.proofs.Common.{◌≡◌, ◌≤◌, ◌+◌, ℕ}
-use Rattle.fv_base.proofs.Laws.{List, length, arith, true, length-append, common_steps, AllAre, erased_byte, up_to_8}
+use Rattle.fv_base.proofs.Laws.{List, length, arith, true, false, length-append, common_steps, AllAre, erased_byte, up_to_8}
 use Rattle.fv_base.specs.declared.flash.FileSystem.{FileSystem}
 use Rattle.fv_base.specs.declared.flash.Polarity.{Polarity}
 use Rattle.fv_file.specs.Words.{CellForm, Free, offset_of, is_free, IsFilled, IsCell, cell_len, LengthsAgree}
@@ -25,6 +25,10 @@ file_least s p head payload b filled = grind (arith, common_steps, length-append
 
 pub not_empty : (s : FileSystem) (p : Polarity) → NotEmpty s p
 not_empty s p given u is = grind (arith, common_steps, file_least, header_least) steps 150000
+
+-- a cell that is not free has at least 24 bytes
+pub cell_least : (s : FileSystem) (p : Polarity) (c : CellForm) (u : List ℕ) → IsCell s p c u → is_free c ≡ false → 24 ≤ length u
+cell_least s p c u is used = grind (arith, common_steps, file_least, header_least) steps 150000
 
 -- ---- the parts of a cell
 

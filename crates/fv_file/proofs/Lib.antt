@@ -12,6 +12,8 @@ pub mod FileReadLemmas
 pub mod FileVerdictLemmas
 pub mod FirstFileLemmas
 pub mod Laws
+pub mod LostMarkLemmas
+pub mod MarkDifferenceLemmas
 pub mod MarkWalkLemmas
 pub mod MarkedFileLemmas
 pub mod NewHeaderLemmas

@@ -184,7 +184,7 @@ module _ (r : List ℕ) (long : 24 ≤ length r) (fixed : is_fixed (attributes_a
   pub state_same : state_at (unmarked 0 r) ≡ state_at r
   state_same = other 23 (λ e. omega (arith, e)) (λ e. omega (arith, e))
 
-  moves : not (is_fixed (attributes_at (unmarked 0 r))) ≡ true
+  pub moves : not (is_fixed (attributes_at (unmarked 0 r))) ≡ true
   moves = ap (λ (a : ℕ). not (is_fixed a)) attributes ∙ ap not (not_fixed_less (slice_index r 19) fixed)
 
 -- ---- 4. the file without its mark

@@ -24,7 +24,7 @@ pub cell_long : (s : FileSystem) (p : Polarity) (at : ℕ) (r : List ℕ) (c : C
 cell_long s p at r c is = grind (arith, common_steps, ltb-false)
 
 -- a fault is Fixed, or it is not
-fixed_known : (f : Fault) → (f.kind ≡ kinds.Fixed) ⊎ (f.kind ≢ kinds.Fixed)
+pub fixed_known : (f : Fault) → (f.kind ≡ kinds.Fixed) ⊎ (f.kind ≢ kinds.Fixed)
 fixed_known f = grind (arith, common_steps)
 
 -- a verdict that is not a fault is a cell
@@ -33,7 +33,7 @@ ok_there (Ok c) none = (c, refl)
 ok_there (Err f) none = absurd (none f refl)
 
 -- removing the mark at a place does not change the bytes before this place
-front_unmarked : (p : ℕ) (b : List ℕ) → take p (unmarked p b) ≡ take p b
+pub front_unmarked : (p : ℕ) (b : List ℕ) → take p (unmarked p b) ≡ take p b
 front_unmarked p b = take-set-le p (slice_set b (p + 16) ((slice_index b (p + 16) + 4) % 256)) (p + 19) (slice_index b (p + 19) - 4) (omega arith)
     ∙ take-set-le p b (p + 16) ((slice_index b (p + 16) + 4) % 256) (omega arith)
 

@@ -9,5 +9,6 @@ pub mod FileChecks
 pub mod CellForms
 pub mod CellWalks
 pub mod Unmarking
+pub mod LostMarks
 pub mod Words
 pub mod inner

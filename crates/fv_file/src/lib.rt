@@ -8,6 +8,7 @@ mod cell_list;
 mod cell_walk;
 pub mod file_type;
 mod first_file;
+pub mod further_laws;
 mod head;
 mod leading;
 mod new_header;

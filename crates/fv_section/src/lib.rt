@@ -5,6 +5,7 @@
 mod frame;
 mod frame_list;
 mod frame_walk;
+pub mod further_laws;
 pub mod offsets;
 mod section_head;
 pub mod section_type;

@@ -1,3 +1,4 @@
+pub mod DecidedTextLemmas
 pub mod GatheringLemmas
 pub mod HexDigitLemmas
 pub mod HexInLemmas

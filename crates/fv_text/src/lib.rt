@@ -3,6 +3,7 @@
 #![tactic(auto)]
 
 mod copying;
+pub mod further_laws;
 mod gathering;
 mod hex_digits;
 mod hex_lines;
