@@ -88,7 +88,9 @@
  * Proofs: the calls from fv_header_read to fv_hobs_read are written in Rattle, below a layer in C. Each of them is
  * proved to do what its comment here says, if that layer accepts its pointers, except for these statements:
  *   - which faults a call can return;
- *   - which input fv_volume_compare reports when memory runs out;
+ *   - which input fv_volume_compare reports if memory runs out after both inputs were read (it is proved that the
+ *     function below the call that compares them reports 0; but for the same two inputs, memory could also have run out
+ *     while the second was read, so no statement about the arguments can show the difference);
  *   - how often fv_volume_tree and fv_volume_tree_digests read the input, and that no image is kept in memory;
  *   - the numbers for memory and stack above, which were measured.
  * This header, the layer (src/calls.c: FV_BAD_ARGUMENT, and NULL in place of an empty argument), fv_guid_text and

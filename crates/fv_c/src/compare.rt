@@ -132,7 +132,9 @@ pub extern "C" fn fvp_volume_compare(
 
     // A fault is the first fault of its input, or out of memory. Memory can run out only if this
     // input begins with the header of a volume. The second input is rejected only if the first is a
-    // volume.
+    // volume. (The input is 0 if memory runs out while two volumes are compared: `first` of
+    // `report`. No clause here can say so, because for the same inputs memory can run out while the
+    // second is read, and then the input is 1.)
     ensures first { result ≢ 0 → result ≢ 256 → fault.new.input ≡ 0 → (f : Fault) × OrMemory (NotRead first.now) f
         × (f ≡ out_of_memory → BeginsWithHeader first.now)
         × (result ≡ fault_number f.kind) × (fault.new ≡ reported_fault_of 0 f) }

@@ -2,7 +2,7 @@
 use Rattle.std.specs.Prelude.{◌≡◌, ◌≤◌, ◌⊎◌, ℕ, Bool, List, [], Option, Some, None, length, take, ◌≢◌, option_map}
 use Rattle.fv_base.specs.Words.{out_of_memory}
 use Rattle.fv_base.specs.declared.fault.Fault.{Fault}
-use Rattle.fv_hob.specs.Words.{IsFirstHobFault, hob_out_of_memory, HobForm, IsHobList}
+use Rattle.fv_hob.specs.Words.{BeginsTable, IsFirstHobFault, hob_out_of_memory, HobForm, IsHobList}
 use Rattle.fv_lines.specs.Words.{HobsText}
 use Rattle.fv_command.specs.RunInputs.{Gives, GivingStops, GivesAt, InputStops}
 use Rattle.fv_command.specs.declared.ending.Refusal.{Refusal}
@@ -35,14 +35,15 @@ pub record ListsHobs (hex : Bool) (base : Option ℕ) (first second : Change) (t
 
 -- why a run over a hand-off list is refused. For a fault of an input: reading the list stopped with this fault, and
 -- nothing of the image was read; or there is a base, and reading the image stopped after the list was read to its end.
--- For a fault of the list: both inputs were read, and the first does not begin with a hand-off list, or memory ran out
+-- For a fault of the list: both inputs were read, and the first does not begin with a hand-off list; or memory ran out,
+-- which can happen only if the first begins with a hand-off information table
 abbrev pub StopsHobs : Option ℕ → Bool → (first second : Change) → Refusal → Type 0
 StopsHobs base hex first second (Input fault) =
     ((second.new ≡ second.old) × GivingStops hex first.old first.new fault)
     ⊎ ((list : List ℕ) × Gives hex first.old first.new list × (base ≢ None) × GivingStops hex second.old second.new fault)
 StopsHobs base hex first second (Hobs fault) =
     (list : List ℕ) × (image : List ℕ) × Gives hex first.old first.new list × GivesImage hex base second image
-    × ((fault ≡ hob_out_of_memory) ⊎ IsFirstHobFault list fault)
+    × (((fault ≡ hob_out_of_memory) × BeginsTable list) ⊎ IsFirstHobFault list fault)
 StopsHobs base hex first second (OneOfTwo side fault) = ⊥
 
 -- an input was read to its end, and the bytes taken from it (`GivesAt`) are a volume with this meaning

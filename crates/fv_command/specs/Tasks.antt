@@ -1,7 +1,7 @@
 -- The text and the status of each task over one input, and the faults that stop a task.
-use Rattle.std.specs.Prelude.{◌≡◌, ◌↔◌, ℕ, Bool, true, List, ◌++◌, drop, ◌⊎◌, false, codes}
+use Rattle.std.specs.Prelude.{◌≡◌, ◌≤◌, ◌↔◌, ℕ, Bool, true, List, ◌++◌, drop, length, ◌⊎◌, false, codes}
 use Rattle.std.specs.List.{flat_map}
-use Rattle.fv_base.specs.Words.{OrMemory, out_of_memory}
+use Rattle.fv_base.specs.Words.{out_of_memory, volume_limit}
 use Rattle.fv_base.specs.declared.flash.Polarity.{Polarity}
 use Rattle.fv_base.specs.declared.fault.Fault.{Fault}
 use Rattle.fv_canon.specs.Words.{IsImage, NodeDigest, NormalisesTo, Unfit, Rejects, NormalisesAll, RejectsAll, IsAboveLimit}
@@ -11,12 +11,12 @@ use Rattle.fv_file.specs.Words.{CellForm, Tiles}
 use Rattle.fv_head.specs.Words.{BeginsVolume}
 use Rattle.fv_head.specs.declared.extent.Extent.{Extent}
 use Rattle.fv_tree.specs.Words.{Accepted, Meaning, files_of, head_of, NotRead, file_named}
-use Rattle.fv_tree.specs.Words.{NotTiled, NotUnfixed, UnfixesTo}
+use Rattle.fv_tree.specs.Words.{MemoryRanOut, NotTiled, NotUnfixed, UnfixesTo}
 use Rattle.fv_lines.specs.Words.{AreNotes, depex_lines, depexes_in, pad_notes, verdict_line, RowsText, ListText}
 use Rattle.fv_rows.specs.Words.{tree_rows}
 use Rattle.fv_lines.specs.Words.{CellsText, volume_line}
 use Rattle.fv_lines.specs.declared.depex_notes.DepexNote.{DepexNote}
-use Rattle.fv_flash.specs.Words.{AreFound}
+use Rattle.fv_flash.specs.Words.{AreFound, IsPlace}
 use Rattle.fv_flash.specs.declared.scanner.FoundVolume.{FoundVolume}
 use Rattle.fv_text.specs.Words.{ShowsBytes}
 use Rattle.fv_command.specs.RunInputs.{BeginsWith, BeginsNone}
@@ -90,6 +90,14 @@ TaskText Unfix hex input Done text = (o : List ℕ) × UnfixesTo input o × Show
 TaskText Scan hex input Done text = (volumes : List FoundVolume) × AreFound input volumes × (text ≡ flat_map volume_line volumes)
 TaskText task hex input status text = ⊥
 
+-- memory ran out, which can happen only if a volume begins in the input, at a multiple of 8
+abbrev pub MemoryRanOutInImage : List ℕ → Fault → Type 0
+MemoryRanOutInImage input fault = (fault ≡ out_of_memory) × ((place : ℕ) × IsPlace input place)
+
+-- memory ran out, which can happen only if the input is a volume from which `unfix` can take the marks away
+abbrev pub MemoryRanOutForCopy : List ℕ → Fault → Type 0
+MemoryRanOutForCopy input fault = (fault ≡ out_of_memory) × ((o : List ℕ) × UnfixesTo input o)
+
 -- why a task writes nothing for its input. Memory ran out, or this is the reason:
 -- - `Normalise`: the input is not a volume, or does not fit
 -- - `NormaliseAll`: a volume in the input is not accepted or does not fit, or the input is longer than the limit
@@ -102,17 +110,24 @@ TaskText task hex input status text = ⊥
 -- - `Unfix`: the input does not begin with a volume whose body is tiled by cells when no file is marked as fixed, or
 --   bytes follow the volume
 -- - `Scan`: no other reason
+-- Memory can run out only if the input begins with a volume header. Three tasks look for volumes in the input
+-- (`NormaliseAll`, `CheckAll`, `Scan`): there memory can run out only if a volume begins in the input and, in the first
+-- two, the input is not longer than the limit. In `Unfix` it can run out only if the input is a volume from which the
+-- marks can be taken away
 abbrev pub TaskRefusal : Task → List ℕ → Fault → Type 0
-TaskRefusal Normalise input fault = OrMemory (Rejects input) fault
-TaskRefusal NormaliseAll input fault = OrMemory (RejectsAll input) fault
-TaskRefusal Listing input fault = OrMemory (BeginsNone input) fault
+TaskRefusal Normalise input fault = MemoryRanOut input fault ⊎ Rejects input fault
+TaskRefusal NormaliseAll input fault =
+    (MemoryRanOutInImage input fault × (length input ≤ volume_limit)) ⊎ RejectsAll input fault
+TaskRefusal Listing input fault = MemoryRanOut input fault ⊎ BeginsNone input fault
 TaskRefusal ListSums input fault =
-    (fault ≡ out_of_memory) ⊎ (BeginsNone input fault ⊎ ((m : Meaning) × BeginsWith input m × Unfit m 0 fault))
+    MemoryRanOut input fault
+    ⊎ (BeginsNone input fault ⊎ ((m : Meaning) × BeginsWith input m × Unfit m 0 fault))
 TaskRefusal (Extract part) input fault =
-    (fault ≡ out_of_memory) ⊎ (BeginsNone input fault
+    MemoryRanOut input fault ⊎ (BeginsNone input fault
     ⊎ ((m : Meaning) × BeginsWith input m × StopsPart (file_named part.name (files_of m)) part.section part.instance fault))
-TaskRefusal Check input fault = OrMemory (NotRead input) fault
-TaskRefusal CheckAll input fault = OrMemory (IsAboveLimit input) fault
-TaskRefusal Cells input fault = OrMemory (NotTiled input) fault
-TaskRefusal Unfix input fault = OrMemory (NotUnfixed input) fault
-TaskRefusal Scan input fault = fault ≡ out_of_memory
+TaskRefusal Check input fault = MemoryRanOut input fault ⊎ NotRead input fault
+TaskRefusal CheckAll input fault =
+    (MemoryRanOutInImage input fault × (length input ≤ volume_limit)) ⊎ IsAboveLimit input fault
+TaskRefusal Cells input fault = MemoryRanOut input fault ⊎ NotTiled input fault
+TaskRefusal Unfix input fault = MemoryRanOutForCopy input fault ⊎ NotUnfixed input fault
+TaskRefusal Scan input fault = MemoryRanOutInImage input fault

@@ -6,6 +6,7 @@ pub use Rattle.fv_command.specs.RunInputs.{Gives, TakenAt, GivesAt, GivingStops,
 pub use Rattle.fv_command.specs.PairRuns.{GivesImage, ListsHobs, StopsHobs, GivesVolume, SideStops}
 pub use Rattle.fv_command.specs.PairRuns.{ComparisonRunText}
 pub use Rattle.fv_command.specs.ImageChecks.{outcome_line, checked_line, is_rejected, is_not_canonical, checks_status}
-pub use Rattle.fv_command.specs.Tasks.{AreCells, CheckText, PartText, TaskText, TaskRefusal}
+pub use Rattle.fv_command.specs.Tasks.{AreCells, CheckText, PartText, TaskText}
+pub use Rattle.fv_command.specs.Tasks.{MemoryRanOutInImage, MemoryRanOutForCopy, TaskRefusal}
 pub use Rattle.fv_command.specs.PlanRuns.{unread, IsOpened, IsFirstSource, IsSecondSource, CommandRunText, StopsCommand}
 pub use Rattle.fv_command.specs.PlanRuns.{HasText, Runs, RunsOver}

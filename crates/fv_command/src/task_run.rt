@@ -1,9 +1,8 @@
 //! The tasks: commands over one input.
 
 ghost use Rattle.std.specs.Prelude.{◌≡◌, ◌⊎◌, ℕ, Bool, List, IfOk, IfErr};
-ghost use Rattle.fv_base.specs.Words.{OrMemory, out_of_memory};
 ghost use Rattle.fv_text.specs.Words.{change, view_of};
-ghost use Rattle.fv_tree.specs.Words.{file_named, Meaning, files_of};
+ghost use Rattle.fv_tree.specs.Words.{MemoryRanOut, file_named, Meaning, files_of};
 ghost use Rattle.fv_command.specs.Extractions.{IsPart};
 ghost use Rattle.fv_command.specs.RunInputs.{BeginsNone, BeginsWith, GivesAt, InputStops};
 ghost use Rattle.fv_command.specs.Tasks.{PartText, TaskRefusal, TaskText};
@@ -25,10 +24,11 @@ use fv_tree::{VolumeView, read_volume};
 use std::alloc::Global;
 use std::io::Read;
 
-// Reads the volume at the start of the input.
+// Reads the volume at the start of the input. Memory runs out only if the input begins with a volume
+// header.
 fn volume_at_start(alloc: Global, input: &[u8]) -> Result<VolumeView<'_>, Fault>
     ensures ok { IfOk result (λ view. BeginsWith input.now view) }
-    ensures err { IfErr result (OrMemory (BeginsNone input.now)) }
+    ensures err { IfErr result (λ f. MemoryRanOut input.now f ⊎ BeginsNone input.now f) }
 {
     let (volume, _length) = read_volume(alloc, input)?;
     Ok(volume)

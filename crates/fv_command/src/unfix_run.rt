@@ -1,8 +1,8 @@
 //! The command `unfix`: a volume without the marks of its fixed files.
 
 ghost use Rattle.std.specs.Prelude.{IfErr, IfOk};
-ghost use Rattle.fv_base.specs.Words.{OrMemory};
-ghost use Rattle.fv_tree.specs.Words.{NotUnfixed, UnfixesTo};
+ghost use Rattle.fv_command.specs.Tasks.{TaskRefusal};
+ghost use Rattle.fv_tree.specs.Words.{UnfixesTo};
 ghost use Rattle.fv_command.specs.inner.RunSteps.{Performs};
 
 use crate::status::Status;
@@ -13,10 +13,10 @@ use fv_tree::{unfix, verify_unfixed};
 use std::alloc::Global;
 
 // Returns a copy of the input, which is a volume, with none of its files marked as fixed. The
-// faults of `verify_unfixed` come first.
+// faults of `verify_unfixed` come first, so memory runs out only if the input has such a copy.
 fn unfixed(alloc: Global, input: &[u8]) -> Result<ByteList, Fault>
     ensures ok { IfOk result (UnfixesTo input.now) }
-    ensures err { IfErr result (OrMemory (NotUnfixed input.now)) }
+    ensures err { IfErr result (TaskRefusal Task.Unfix input.now) }
 {
     verify_unfixed(input)?;
     let mut bytes = Vec::from_slice(alloc, input)?;
@@ -31,7 +31,8 @@ fn unfixed(alloc: Global, input: &[u8]) -> Result<ByteList, Fault>
 ///
 /// # Errors
 ///
-/// As for `fv_tree::verify_unfixed`; then OutOfMemory. Nothing has been put in that case.
+/// As for `fv_tree::verify_unfixed`; then OutOfMemory, so only if the input is a volume whose marks
+/// can be taken away. Nothing has been put in that case.
 pub fn put_unfixed<S: Sink>(
     alloc: Global,
     hex: bool,

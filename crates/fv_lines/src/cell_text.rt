@@ -3,8 +3,9 @@
 
 ghost use Rattle.std.specs.Prelude.{◌≡◌, ◌≤◌, ◌+◌, ◌-◌, ◌<◌, ◌^◌, ◌++◌, length, map, ℕ, List, codes, IfErr, OnErr, OnOk};
 ghost use Rattle.std.specs.List.{flat_map, sum_by};
-ghost use Rattle.fv_base.specs.Words.{up_to_8, OrMemory};
+ghost use Rattle.fv_base.specs.Words.{up_to_8, OrMemory, out_of_memory};
 ghost use Rattle.fv_file.specs.Words.{Dead, Valid, cell_form, cell_len};
+ghost use Rattle.fv_head.specs.Words.{BeginsWithHeader};
 ghost use Rattle.fv_lines.specs.CellTexts.{CellsText, cell_line, span_line, span_text, sums_line, sums_of};
 ghost use Rattle.fv_lines.specs.inner.LineRuns.{CellFits, FitTogether, counted, sums_with};
 ghost use Rattle.fv_tree.specs.Words.{NotTiled};
@@ -201,6 +202,9 @@ pub fn put_cells<S: Sink>(alloc: Global, input: &[u8], out: &mut S) -> Result<()
 
     // Any error except OutOfMemory is the first fault of the header or of a cell.
     ensures err { IfErr result (OrMemory (NotTiled input.now)) }
+
+    // Memory runs out only if the input begins with a volume header.
+    ensures memory { IfErr result (λ f. f ≡ out_of_memory → BeginsWithHeader input.now) }
 
     // After an error the sink is unchanged.
     ensures untouched { OnErr result (out.new ≡ out.old) }

@@ -58,12 +58,14 @@ struct Level<'v, 'a> {
     parts: Parts<'v, 'a>,
 }
 
-/// Returns the first of some parts, and leaves the others; returns None if there is no part.
-/// Allocates no memory.
+/// Returns the first of some parts, and leaves the others; returns None if there is no part, and
+/// again in each later call. Allocates no memory.
 #[inline(always)]
 pub fn next_part<'v, 'a>(parts: &mut Parts<'v, 'a>) -> Option<Part<'v, 'a>>
     ensures some { IfSome result (λ p. nodes_of parts.old ≡ part_node p ∷ nodes_of parts.new) }
-    ensures none { IfNone result (nodes_of parts.old ≡ []) }
+
+    // None is returned only if no part is left, and no part is left after that.
+    ensures none { IfNone result ((nodes_of parts.old ≡ []) × (nodes_of parts.new ≡ [])) }
 {
     match parts {
         Parts::Nothing => None,

@@ -1,10 +1,13 @@
 use Rattle.fv_base.proofs.Laws.{inr, or_more, refl, err_is}
 use Rattle.fv_canon.proofs.Laws.{layout_covers}
+use Rattle.fv_command.proofs.MemoryLaws.{begun_header, with_cause}
 use Rattle.fv_command.proofs.task_run.list_sums.Goals as goal
 
 pub returns-in_err-places : goal.returns-in_err-places
 returns-in_err-places g c =
-    let why = or_more c.in_err-places.ensures.err (λ unfit. inr (_, c.in_ok-volume.ensures.ok, unfit)) in
+    let header = begun_header _ _ c.in_ok-volume.ensures.ok in
+    let unfit = or_more c.in_err-places.ensures.err (λ unfit. inr (_, c.in_ok-volume.ensures.ok, unfit)) in
+    let why = with_cause unfit (λ _. header) in
     λ hex. rw (err_is c.from_residual-in_err-places.ensures.1) (why, refl)
 
 pub put_list_with-requires : goal.put_list_with-requires

@@ -1,12 +1,14 @@
 use Rattle.std.proofs.Common.{refl}
 use Rattle.std.proofs.lemmas.Result.{err_from_is_err_and}
+use Rattle.fv_command.proofs.MemoryLaws.{image_cause, with_cause}
 use Rattle.fv_command.proofs.task_run.perform.Goals as goal
 
 -- `normalise` of a volume
 pub returns-in_err-lay_out_volume-in-Normalise : goal.returns-in_err-lay_out_volume-in-Normalise
 returns-in_err-lay_out_volume-in-Normalise g c =
     let p = err_from_is_err_and c.from_residual.result c.from_residual.ensures.1 in
-    rw (c.in-Normalise.is, p.1, p.2) (c.in_err-lay_out_volume-in-Normalise.ensures.err, refl)
+    let e = c.in_err-lay_out_volume-in-Normalise.ensures in
+    rw (c.in-Normalise.is, p.1, p.2) (with_cause e.err e.memory, refl)
 
 pub returns-in_ok-lay_out_volume-in-Normalise : goal.returns-in_ok-lay_out_volume-in-Normalise
 returns-in_ok-lay_out_volume-in-Normalise g c =
@@ -18,7 +20,8 @@ pub returns-in_err-lay_out_image-in-NormaliseAll : goal.returns-in_err-lay_out_i
 returns-in_err-lay_out_image-in-NormaliseAll g c =
     let residual = c.from_residual-in_err-lay_out_image-in-NormaliseAll in
     let p = err_from_is_err_and residual.result residual.ensures.1 in
-    rw (c.in-NormaliseAll.is, p.1, p.2) (c.in_err-lay_out_image-in-NormaliseAll.ensures.err, refl)
+    let e = c.in_err-lay_out_image-in-NormaliseAll.ensures in
+    rw (c.in-NormaliseAll.is, p.1, p.2) (image_cause _ _ e.err e.memory, refl)
 
 pub returns-in_ok-lay_out_image-in-NormaliseAll : goal.returns-in_ok-lay_out_image-in-NormaliseAll
 returns-in_ok-lay_out_image-in-NormaliseAll g c =

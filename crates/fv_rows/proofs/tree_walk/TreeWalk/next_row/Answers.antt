@@ -49,5 +49,5 @@ loop-part-preserved c =
     let items = c.in_ok-self-inside.ensures.items in
     record {
       levels = subst (AreRowLevels 0) items (levels_less 0 (length levels) levels l (omega arith) c.loop-part.invariant.levels).0;
-      left = c.loop-part.invariant.left ∙ none_left levels l (rw c.in_default.is at c.next_part.ensures.none) ∙ ap (rows_left_in 0) items;
+      left = c.loop-part.invariant.left ∙ none_left levels l (rw c.in_default.is at c.next_part.ensures.none).0 ∙ ap (rows_left_in 0) items;
     }
