@@ -137,6 +137,8 @@ CHECKS = (
     Check("shell", "python3 -m tests.sources.scripts shell", QUICK,
           "shell scripts are well-formed (shellcheck), and safe with CDPATH"),
     Check("runner", "tests.sources.test_runner", QUICK, "this script counts rightly, and leaves no process"),
+    Check("goals", "tests.sources.test_mutants", QUICK,
+          "each wrong body, also in must-fail/, names a goal that a wrong body can break"),
     Check("fuzz", "tests/fuzz/check", 0,
           "a minute of the fuzzer of the library has no finding, and it finds planted faults", needs=("library",)),
     Check("fresh", "python3 -m tests.install.fresh", 0,

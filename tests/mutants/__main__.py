@@ -1,6 +1,6 @@
 # SPDX-License-Identifier: BSD-2-Clause-Patent
-"""mutants [CRATE|CRATE/EDIT..]: tries the wrong bodies in crates/NAME/mutants/, many in each check. The prover must
-reject every one, at the goal that the edit names.
+"""mutants [CRATE|CRATE/EDIT..]: tries the wrong bodies in mutants/ and must-fail/ of crates/NAME, many in each check.
+The prover must reject every one, at the goal that the edit names.
 
 An edit has the form of a must-fail edit, with one or two further lines:
 
@@ -12,7 +12,12 @@ An edit has the form of a must-fail edit, with one or two further lines:
 
 NAME is the goal as the checker prints it in backquotes, for example `returns-clause-found`. It must belong to a
 function that the edit changes. A line `goal: MODULE::FUNCTION NAME` names the function too: an edit of a constant needs
-this, and is tried on its own. Several pairs of old and new are one edit.
+this, and is tried on its own. Several pairs of old and new are one edit. In must-fail/ the two further lines begin with
+`# `: `rt ci` does not read them, and accepts any goal at which it rejects the edit.
+
+The goal must not belong to a clause that says nothing of the outcome: a clause that names neither `result` nor a new
+state, for example `out.new`. No body can break such a clause. The prover rejects the edit only if its proof of the
+clause needs the right body, and would still reject it without the clause that matters.
 
 Many edits share a check (docs/DECISIONS.md, The gate's time). All that the edits do not change is given and not proved
 again: the theorems of the other functions, the lemmas of the crate, and all goals of a changed function except the goal
@@ -37,8 +42,8 @@ The goals of the changed functions determine the grade of an edit:
   and listed as weak. If the goal is proved, the contract permits the edit. The line `answer: none` marks an edit whose
   goal has an answer that no longer fits, so that the edit is tried only once, without the answer.
 
-An edit fails if it is proved, if only goals that it does not name are open, if it cannot be applied or compiled, or if
-the checker cannot judge its function.
+An edit fails if it is proved, if only goals that it does not name are open, if no body can break the clause of its
+goal, if it cannot be applied or compiled, or if the checker cannot judge its function.
 
 Nothing is written into the repository. The copies lie in a folder of their own in TMPDIR, which is removed at the end,
 also after Ctrl-C. The libraries below a crate have to be built: `rt ci`, `tools/prove.py fv_tool` or `rt check` leave
@@ -77,8 +82,9 @@ import kit
 import prove
 from tests.checks import ROOT
 from tests.mutants.crates import Checks, Crate, files_of, link_libraries
-from tests.mutants.edits import BAD, CACHE, REJECTED, TEXT, WEAK, Edit, Open, Try, applied, changed, keep, key_of
-from tests.mutants.edits import read_edit, read_lists, write_goal, write_lists
+from tests.mutants.edits import BAD, CACHE, REJECTED, TEXT, WEAK, Edit, Open, Try, applied, changed, files_of_edits
+from tests.mutants.edits import keep, key_of, read_edit, read_lists, write_goal, write_lists
+from tests.mutants.functions import can_be_broken, functions, promises
 from tests.mutants.judge import Judge
 from tests.sources.definitions import calls
 
@@ -88,8 +94,7 @@ ROOM = 3_500_000  # the kB of memory that a check is expected to take
 def is_of_contract(crate: Crate, edit: Edit, named: str) -> bool:
     """Returns whether an edit is tried without --every: whether this text of STANDARD.md names it, or its goal belongs
     to a clause or the result of a public function."""
-    owners = changed(edit, crate.texts) or [it for it in crate.paths.values() if it.path == edit.of]
-    is_public = any(it.is_public for it in owners)
+    is_public = any(it.is_public for it in crate.owners(edit))
     is_result = edit.goal.startswith("returns") or "clause-" in edit.goal
     return f"`{edit.name}`" in named or is_public and is_result or not edit.goal
 
@@ -101,14 +106,16 @@ def tries_of(crate: Crate, given: argparse.Namespace) -> list[Try]:
     every = not given.crates or crate.name in given.crates
     is_chosen = not given.crates and not given.every and not writes and not given.write_lists
     named = (ROOT / "docs/STANDARD.md").read_text(encoding="utf-8")
-    paths = sorted((crate.folder / "mutants").glob("*.edit"))
+    paths = files_of_edits(crate.folder)
     lists = {} if given.write_lists else read_lists(crate.folder)
     for number, path in enumerate(paths):
         if not every and f"{crate.name}/{path.stem}" not in given.crates:
             continue
         edit = read_edit(path)
         applies = applied(edit.changes, crate.texts) is not None
-        if is_chosen and applies and not is_of_contract(crate, edit, named):
+        owners = crate.owners(edit) if applies else []
+        can_be_false = can_be_broken(edit.goal, owners, crate.texts)
+        if is_chosen and applies and can_be_false and not is_of_contract(crate, edit, named):
             crate.applied += 1
             continue
         key = key_of(base, path)
@@ -119,12 +126,13 @@ def tries_of(crate: Crate, given: argparse.Namespace) -> list[Try]:
             each.ends(BAD, "it has no line goal: (--write-goals writes it)")
         elif not applies:
             each.ends(BAD, "an old text is not in its file exactly once, or nothing is changed")
+        elif not can_be_false:
+            each.ends(BAD, "no body can break this clause, which names neither the result nor a new state")
         elif not anew and (CACHE / key).is_file() and edit.goal:
             each.ends(**json.loads((CACHE / key).read_text()))
         else:
-            of = crate.paths.get(edit.of)
-            each.owners = [of] if of else changed(edit, crate.texts) or []
-            each.alone = bool(of) and changed(edit, crate.texts) != [of]
+            each.owners = owners
+            each.alone = edit.of in crate.paths and changed(edit, crate.texts) != owners
             each.copies(number)
             if edit.is_bare and len(each.owners) == 1:
                 each.left = Open(each.owners[0].unit, edit.goal, TEXT)
@@ -215,36 +223,44 @@ def run(names: list[str], given: argparse.Namespace, checks: Checks, room: pathl
     return tell(tries, checks.count, sum(it.applied for it in crates))
 
 
-def named_in(crate: str) -> dict[str, set[str]]:
-    """Returns the clauses that the goals of a crate's edits name, by the names of their functions. Each edit of a
-    function counts as naming its only clause, which has no name here."""
-    folder, named = ROOT / "crates" / crate, collections.defaultdict[str, set[str]](set)
-    texts = files_of(folder)
-    for edit in map(read_edit, (it for part in ("mutants", "must-fail") for it in (folder / part).glob("*.edit"))):
+def named_in(crate: str, texts: dict[str, str]) -> dict[str, set[str]]:
+    """Returns the clauses that the goals of a crate's edits name, by the paths of their functions. Each edit of a
+    function counts as naming its only clause, which has no name here. The clauses of a trait's function are by its name:
+    the edits change the methods of the trait's `impl`s."""
+    named = collections.defaultdict[str, set[str]](set)
+    for edit in map(read_edit, files_of_edits(ROOT / "crates" / crate)):
         clause = re.search(r"clause-([\w-]+)$", edit.goal)
-        for owner in [it.path for it in changed(edit, texts) or []] + [edit.of] * bool(edit.of):
-            named[owner.rpartition("::")[2]].add(clause[1] if clause else "")
+        owners = changed(edit, texts) or []
+        of_traits = [it.path.rpartition("::")[2] for it in owners if not promises(it, texts)]
+        for path in [*(it.path for it in owners), *of_traits, edit.of]:
+            named[path].add(clause[1] if clause else "")
     return named
 
 
 def list_unnamed(crates: list[str]) -> int:
-    """Lists the `ensures` clauses of public functions that no edit's goal names. Returns the exit status."""
+    """Lists the `ensures` clauses of public functions that no edit's goal names, except the clauses that no body can
+    break. Returns the exit status."""
     os.chdir(ROOT)
     every, left = 0, 0
     for crate in crates:
-        named, count, lacking = named_in(crate), 0, list[str]()
+        texts, count, lacking = files_of(ROOT / "crates" / crate), 0, list[str]()
+        named = named_in(crate, texts)
+        paths = {(it.file, it.first): it.path for file in texts if file.startswith("src/") for it in functions(file, texts)}
         for call in calls(crate):
-            clauses, edits = [it.name for it in call.clauses if it.is_ensured], named[call.name]
+            file = call.path.removeprefix(f"crates/{crate}/")
+            edits = named[paths.get((file, texts[file].count("\n", 0, call.start)), call.name)]
+            ensured = [it for it in call.clauses if it.is_ensured]
+            clauses = [it.name for it in ensured if it.is_of_outcome]
             count += len(clauses)
-            place = f"{call.path.partition('/src/')[2]}: {call.owner + '::' if call.owner else ''}{call.name}"
+            place = f"{file.removeprefix('src/')}: {call.owner + '::' if call.owner else ''}{call.name}"
             lacking += [
                 f"    {place}: {it or '(a clause without a name)'}"
                 for it in clauses
-                if it not in edits and (len(clauses) > 1 or not edits)
+                if it not in edits and (len(ensured) > 1 or not edits)
             ]
         print("\n".join([f"mutants: {crate}: {len(lacking)} of {count} clauses are in no edit's goal", *lacking]))
         every, left = every + count, left + len(lacking)
-    print(f"mutants: {left} of {every} clauses of public functions are in no edit's goal")
+    print(f"mutants: {left} of {every} clauses of public functions that a body can break are in no edit's goal")
     return 0
 
 
@@ -266,7 +282,7 @@ def main() -> int:
     """Reads the arguments, and tries the edits in a temporary folder. Returns the exit status."""
     given = arguments()
     every = sorted(path.parent.name for path in ROOT.glob("crates/*/mutants"))
-    files = {f"{name}/{path.stem}" for name in every for path in (ROOT / "crates" / name / "mutants").glob("*.edit")}
+    files = {f"{name}/{path.stem}" for name in every for path in files_of_edits(ROOT / "crates" / name)}
     unknown = [it for it in given.crates if it not in every and it not in files]
     if unknown or given.jobs < 1:
         print(f"mutants: {' '.join(unknown) or '--jobs'}: no crate with a folder mutants/, no edit, or no number")

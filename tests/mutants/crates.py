@@ -14,8 +14,8 @@ import threading
 import typing
 
 from tests.checks import ROOT
-from tests.mutants.edits import FALSE, GRADING, NO_PROOF, TEXT, Open, Try, applied, with_copy
-from tests.mutants.functions import functions, proofs_of, stubbed
+from tests.mutants.edits import FALSE, GRADING, NO_PROOF, TEXT, Edit, Open, Try, applied, changed, with_copy
+from tests.mutants.functions import Function, functions, proofs_of, stubbed
 from tests.mutants.proofs import answered, answers, assumed, given_lemmas, resting, searched, without
 
 PARTS = ("src", "specs", "proofs")
@@ -194,6 +194,11 @@ class Crate:
         self.lemmas = given_lemmas(self.texts)
         # The number of edits that are only applied.
         self.applied = 0
+
+    def owners(self, edit: Edit) -> list[Function]:
+        """Returns the function that the line `goal:` of an edit names, or else the functions that the edit changes."""
+        of = self.paths.get(edit.of)
+        return [of] if of else changed(edit, self.texts) or []
 
     def checksum(self) -> str:
         """Returns the checksum of all that a check of the crate reads."""

@@ -16,6 +16,8 @@ from tests.mutants.functions import IMPORT, Function, around, functions, proofs_
 # versions in CACHE are not used.
 GRADING = 6
 CACHE = pathlib.Path(os.environ.get("XDG_CACHE_HOME") or pathlib.Path.home() / ".cache") / "capstanolive-mutants"
+# The folders of a crate that have edits: those that only tests/mutants tries, and those that `rt ci` tries too.
+PARTS_OF_EDITS = ("mutants", "must-fail")
 # The three grades of an edit, and its other results.
 FALSE, NO_PROOF, TEXT = "false", "no proof", "text"
 WEAK, PROVED, OTHER, BAD = "weak", "PROVED", "OTHER GOAL", "BAD EDIT"
@@ -48,10 +50,16 @@ class Edit:
         return self.path.stem
 
 
+def files_of_edits(folder: pathlib.Path) -> list[pathlib.Path]:
+    """Returns the files of the edits of a crate."""
+    return [path for part in PARTS_OF_EDITS for path in sorted((folder / part).glob("*.edit"))]
+
+
 def read_edit(path: pathlib.Path) -> Edit:
-    """Reads an edit. A line that belongs to no change is ignored, as in `rt must-fail`."""
+    """Reads an edit. A line that belongs to no change is ignored, as in `rt must-fail`. In must-fail/, the lines that
+    `rt must-fail` ignores begin with `# `, since `rt check` prints a note on any other line that it does not know."""
     file, old, goal, of, is_bare, changes = "", "", "", "", False, list[Change]()
-    for line in path.read_text(encoding="utf-8").split("\n"):
+    for line in (it.removeprefix("# ") for it in path.read_text(encoding="utf-8").split("\n")):
         if line.startswith("file: "):
             file = line[6:].strip()
         elif line.startswith("old: "):
@@ -182,7 +190,7 @@ def write_lists(folder: pathlib.Path, tries: list[Try]) -> None:
     """Writes the goals without an answer of each edit that was rejected, and keeps the lists of the others."""
     new = {it.edit.name: it.listed for it in tries if it.grade in REJECTED and it.listed is not None}
     found = read_lists(folder) | new
-    names = {it.stem for it in (folder / "mutants").glob("*.edit")}
+    names = {it.stem for it in files_of_edits(folder)}
     lines = [" ".join([f"{name}:", *sorted(goals)]) for name, goals in sorted(found.items()) if name in names]
     (folder / "mutants/goals.txt").write_text("".join(f"{line}\n" for line in lines), encoding="utf-8")
 
@@ -210,6 +218,7 @@ def write_goal(each: Try) -> None:
         each.ends(BAD, f"no goal is written: {said}", each.goal)
     else:
         lines = each.edit.path.read_text(encoding="utf-8").rstrip("\n").split("\n")
-        lines = [it for it in lines if not it.startswith("goal:")]
-        lines.append(" ".join(["goal:", *[each.edit.of] * bool(each.edit.of), each.goal]))
+        lines = [it for it in lines if not it.removeprefix("# ").startswith("goal:")]
+        begins = "# goal:" if each.edit.path.parent.name == "must-fail" else "goal:"
+        lines.append(" ".join([begins, *[each.edit.of] * bool(each.edit.of), each.goal]))
         each.edit.path.write_text("\n".join(lines) + "\n", encoding="utf-8")

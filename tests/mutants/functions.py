@@ -4,7 +4,7 @@
 import dataclasses
 import re
 
-from tests.sources.definitions import FUNCTION
+from tests.sources.definitions import FUNCTION, Clause, blank, contract
 
 # Patterns for lines of a source: the attribute of a function that is proved with others, the first line of an `impl` or
 # a trait, the first line of a type, and an import.
@@ -124,6 +124,30 @@ def functions(file: str, texts: dict[str, str]) -> list[Function]:
 def around(file: str, texts: dict[str, str], line: int) -> Function | None:
     """Returns the function that contains a line of a source, without the attributes and comments above a function."""
     return next((it for it in functions(file, texts) if it.first <= line <= it.last), None)
+
+
+def promises(function: Function, texts: dict[str, str]) -> list[Clause]:
+    """Returns the `ensures` clauses of a function. A method of a trait's `impl` has none: they are in the trait."""
+    text = texts[function.file]
+    begins = FUNCTION.match(text, sum(len(it) + 1 for it in text.split("\n")[: function.first]))
+    return [it for it in contract(text, blank(text), begins.end()) if it.is_ensured] if begins else []
+
+
+def clause_of(goal: str, function: Function, texts: dict[str, str]) -> Clause | None:
+    """Returns the clause of a function that a goal is about: the clause that the goal names, or else the only clause.
+    Returns nothing for a goal that is not about the function's end, and for a goal about a clause of a trait."""
+    own = goal.removeprefix(f"{function.path.rpartition('::')[2]}-")
+    named, found = re.search(r"-clause-([\w-]+)$", own), promises(function, texts)
+    if not own.startswith("returns") or not named and len(found) > 1:
+        return None
+    return next((it for it in found if not named or it.name == named[1]), None)
+
+
+def can_be_broken(goal: str, owners: list[Function], texts: dict[str, str]) -> bool:
+    """Returns whether a wrong body of one of these functions can make a goal false. It cannot if the goal is about a
+    clause that says nothing of the outcome."""
+    found = [it for it in (clause_of(goal, owner, texts) for owner in owners) if it]
+    return not found or any(it.is_of_outcome for it in found)
 
 
 def stubbed(texts: dict[str, str], units: set[str]) -> dict[str, str]:

@@ -5,7 +5,7 @@ import collections
 
 from tests.mutants.crates import Crate, Report
 from tests.mutants.edits import BAD, FALSE, NO_PROOF, OTHER, PROVED, TEXT, WEAK, Open, Try
-from tests.mutants.functions import Function, around, proofs_of
+from tests.mutants.functions import Function, around, can_be_broken, proofs_of
 from tests.mutants.proofs import answers
 from tests.sources.definitions import reached
 
@@ -134,14 +134,21 @@ class Judge:
 
     def found(self, each: Try, opens: list[Open]) -> Open | None:
         """Returns the open goal that an edit names, or any open goal if the edit names no goal."""
-        return self.chosen([it for it in opens if each.is_wanted(it.goal)] if each.wanted else opens)
+        if each.wanted:
+            return self.chosen([it for it in opens if each.is_wanted(it.goal)])
+        return self.chosen(self.nameable(each, opens))
+
+    def nameable(self, each: Try, opens: list[Open]) -> list[Open]:
+        """Returns the open goals that an edit without a goal may name."""
+        opens = [it for it in opens if it.goal not in each.passed]
+        return [it for it in opens if can_be_broken(it.goal, each.owners, self.crate.texts)]
 
     def next(self, each: Try, opens: list[Open]) -> Open | None:
         """Returns the next goal that an edit without a goal may name, if the tried goal needs no answer."""
         if not each.left or each.edit.goal:
             return None
         each.passed.add(each.left.goal)
-        found = self.chosen([it for it in opens if it.goal not in each.passed])
+        found = self.chosen(self.nameable(each, opens))
         each.left = None if found else each.left
         return found
 

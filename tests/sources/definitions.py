@@ -40,6 +40,8 @@ NO_WORDS = {"abbrev", "pub", "record", "data", "unfoldable", "opaque", "mutual",
 SIGNATURE = re.compile(r"(?:[^{;\[]|\[[^\]]*\])*")
 CLAUSE = re.compile(r"(?:[^{;\[]|\[[^\]]*\])*?\b(requires|ensures)\b([^\n{;]*)\{")
 FUNCTION = re.compile(r'(?m)^([ \t]*)(pub(?:\([a-z]+\))? )?(?:const )?(extern "C" )?fn (\w+)')
+# What a clause is about if a body can break it: the result, or the state of a parameter after the call.
+OUTCOME = re.compile(r"(?<![\w.'-])(?:result|\w+\.new)(?![\w'-])")
 
 
 @dataclass(frozen=True)
@@ -51,6 +53,12 @@ class Clause:
     begins: bool
     text: str
     is_ensured: bool
+
+    @property
+    def is_of_outcome(self) -> bool:
+        """Returns whether a body can break the clause, which then names the result or a new state. Any other clause
+        says something of the arguments only, as the clauses of a law do."""
+        return bool(OUTCOME.search(self.text))
 
 
 @dataclass(frozen=True)
