@@ -11,7 +11,7 @@ use Rattle.fv_canon.proofs.ReadingSteps.{guid}
 use Rattle.fv_canon.proofs.PadLaws.{pads_rule}
 
 -- the image of a volume without files
-empty_image : image_of (Volume (head 128 None) NoFiles) [] ≡ empty_volume
+pub empty_image : image_of (Volume (head 128 None) NoFiles) [] ≡ empty_volume
 unfolding canonical_head head_spelled ext_pad
 empty_image = refl
 
