@@ -1,11 +1,9 @@
 -- The images of small volumes, byte by byte.
-use Rattle.std.proofs.Common.{◌≡◌, ℕ, [], ◌∷◌, ◌++◌, false, List, replicate, refl, arith, Option, None, Some}
+use Rattle.std.proofs.Common.{◌≡◌, [], ◌∷◌, ◌++◌, false, replicate, refl, arith, None, Some}
 use Rattle.fv_base.proofs.Laws.{common_steps}
-use Rattle.fv_base.specs.declared.flash.FileSystem.TheVariants.{Ffs2}
 use Rattle.fv_base.specs.declared.flash.Polarity.{Polarity}
-use Rattle.fv_base.specs.declared.guid.Guid.{Guid}
 use Rattle.fv_file.specs.Words.{header_bytes}
-use Rattle.fv_head.specs.Words.{Extension, HeadFields, canonical_head, head_spelled, ext_spelled}
+use Rattle.fv_head.specs.Words.{Extension, canonical_head, head_spelled, ext_spelled}
 use Rattle.fv_tree.specs.Words.{Volume, NoFiles, MoreFiles, File, Plain, Sectioned, NoSections, MoreSections, Section, Leaf, Nested}
 use Rattle.fv_canon.specs.inner.ImageOf.{image_of}
 use Rattle.fv_canon.specs.Words.{stored_bytes, pad_bytes, gap_bytes, ext_pad, empty_volume, head, head_bytes, file_header_bytes}
@@ -13,7 +11,7 @@ use Rattle.fv_canon.proofs.ReadingSteps.{guid}
 use Rattle.fv_canon.proofs.PadLaws.{pads_rule}
 
 -- the image of a volume without files
-empty_image : image_of (Volume (head 128 None) NoFiles) [] ≡ empty_volume
+pub empty_image : image_of (Volume (head 128 None) NoFiles) [] ≡ empty_volume
 unfolding canonical_head head_spelled ext_pad
 empty_image = refl
 

@@ -5,6 +5,7 @@
 ghost use Rattle.std.specs.Prelude.{◌∷◌, ◌++◌, [], None, replicate, take};
 ghost use Rattle.fv_base.specs.Words.{outer_fault};
 ghost use Rattle.fv_tree.specs.Words.{Accepted, NoFiles, Volume, top_name};
+ghost use Rattle.fv_canon.specs.Headline.{NormalisesTo};
 ghost use Rattle.fv_canon.specs.InputRejections.{Rejects};
 ghost use Rattle.fv_canon.specs.WorkedInputs.{changed, empty_volume, fault_at, file_bytes, file_header_bytes};
 ghost use Rattle.fv_canon.specs.WorkedInputs.{head, long_header, misaligned_top, nine_groups, no_room_for_pad, smallest_volume};
@@ -13,10 +14,12 @@ ghost use Rattle.fv_canon.specs.WorkedInputs.{volume_with};
 use fv_base::FaultKind;
 
 /// The smallest volume, which is a header of 72 bytes, is accepted as a volume without files. So is
-/// a volume of 128 bytes whose body is free space. (PI specification, volume 3, section 3.2.1.1.)
+/// a volume of 128 bytes whose body is free space, which is its own canonical image. (PI
+/// specification, volume 3, section 3.2.1.1.)
 pub fn accepted_volumes()
     ensures smallest { Accepted smallest_volume (Volume (head 72 None) NoFiles) }
     ensures empty { Accepted empty_volume (Volume (head 128 None) NoFiles) }
+    ensures image { NormalisesTo empty_volume empty_volume }
 {}
 
 /// Inputs with a fault of the header, and the fault with which each of them is rejected. (PI
