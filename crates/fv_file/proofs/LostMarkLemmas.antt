@@ -17,7 +17,7 @@ use Rattle.fv_base.specs.declared.fault.Fault.{Fault}
 use Rattle.fv_base.specs.declared.flash.FileSystem.{FileSystem}
 use Rattle.fv_base.specs.declared.flash.Polarity.{Polarity}
 use Rattle.fv_base.specs.declared.flash.Polarity.TheVariants.{Ones, Zeros}
-use Rattle.fv_file.specs.LostMarks.{TilesUnmarked, Unmarkable, UnmarkingStops, is_marked, without_mark}
+use Rattle.fv_file.specs.Words.{TilesUnmarked, Unmarkable, UnmarkingStops, is_marked, without_mark}
 use Rattle.fv_file.specs.Words.{CellForm, Free, is_free, offset_of, IsCell, Tiles, NoneFree, cell_len, IsFirstCellFault, unmarked, Unmarks, state_of, is_valid_state}
 use Rattle.fv_file.specs.inner.CellVerdicts.{cell_verdict}
 use Rattle.fv_file.proofs.BodyLemmas.{TiledUpto, upto_begins, stands_here, one_on, first_here, rest_free, rest_used, whole_kept, free_kept, only_one}

@@ -8,7 +8,7 @@ use Rattle.fv_base.proofs.Laws.{append-nil, length-append, take-append-drop, tak
 use Rattle.std.proofs.lemmas.Bool.{not-true}
 use Rattle.fv_base.specs.declared.flash.FileSystem.{FileSystem}
 use Rattle.fv_base.specs.declared.flash.Polarity.{Polarity}
-use Rattle.fv_file.specs.LostMarks.{DiffersInMark, DifferInMarks, TilesUnmarked, is_marked, without_mark}
+use Rattle.fv_file.specs.Words.{DiffersInMark, DifferInMarks, TilesUnmarked, is_marked, without_mark}
 use Rattle.fv_file.specs.Words.{CellForm, IsCell, attributes_at, cell_len, is_fixed, is_free, offset_of, unmarked}
 use Rattle.fv_file.proofs.CellPartLemmas.{cell_least, cell_span, not_empty}
 use Rattle.fv_file.proofs.CellVerdictLemmas.{one_cell}

@@ -17,15 +17,14 @@ use Rattle.fv_file.specs.Unmarking.{unmarked, Unmarks}
 abbrev pub is_marked : Polarity → List ℕ → Bool
 is_marked polarity x = not (skips_data (is_valid_state (state_of polarity (state_at x))) x) && is_fixed (attributes_at x)
 
--- the bytes x of a cell without its mark: if the cell is a valid fixed file (`is_marked`), bit 0x04 of its attributes is
--- cleared, and its header checksum is changed so that the sum of the header stays the same (`unmarked`). All other bytes,
--- and all bytes of any other cell, stay the same
+-- the bytes x of a cell without its mark. If the cell is a valid fixed file (`is_marked`), bit 0x04 of its attributes is
+-- cleared, and 4 is added to its header checksum, modulo 256 (`unmarked`). All other bytes stay the same
 abbrev pub without_mark : Polarity → List ℕ → List ℕ
 without_mark polarity x = if is_marked polarity x then unmarked 0 x else x
 
--- the body b and the body o consist of the same number of parts of the same lengths, one after another. Each part of o is
--- the part of b without its mark, and these parts are the cells, of which the first is at the offset `at`; only the last
--- may be a free cell
+-- cell by cell, o is the body b without the marks of valid fixed files. Both consist of parts, one after the other. Each
+-- part of o is the same part of b without its mark, and is one of these cells, of which the first is at the offset `at`;
+-- only the last may be a free cell
 abbrev pub TilesUnmarked : FileSystem → Polarity → ℕ → List CellForm → List ℕ → List ℕ → Type 0
 TilesUnmarked system polarity at [] b o = (b ≡ []) × (o ≡ [])
 TilesUnmarked system polarity at (c ∷ cs) b o =
@@ -33,14 +32,14 @@ TilesUnmarked system polarity at (c ∷ cs) b o =
     × IsCell system polarity c (without_mark polarity x) × (offset_of c ≡ at) × (is_free c ≡ true → cs ≡ [])
     × TilesUnmarked system polarity (at + length x) cs rest more
 
--- the bytes x and y of a cell differ in the mark of a valid fixed file only: they are the same, or one of them is such a
+-- the bytes x and y of a cell differ in the mark of a valid fixed file only. They are the same, or one of them is such a
 -- file, and the other is this file without its mark
 abbrev pub DiffersInMark : Polarity → List ℕ → List ℕ → Type 0
 DiffersInMark polarity x y =
     (x ≡ y) ⊎ ((is_marked polarity x ≡ true) × (y ≡ unmarked 0 x)) ⊎ ((is_marked polarity y ≡ true) × (x ≡ unmarked 0 y))
 
--- the bodies a and b differ in the marks of valid fixed files only: they consist of parts that are as long as these cells,
--- one after another, and each part of a differs from the same part of b in a mark only, or not at all
+-- the bodies a and b differ in the marks of valid fixed files only. They consist of parts that are as long as these cells,
+-- one after the other, and each part of a differs from the same part of b in a mark only, or not at all
 abbrev pub DifferInMarks : Polarity → List CellForm → List ℕ → List ℕ → Type 0
 DifferInMarks polarity [] a b = (a ≡ []) × (b ≡ [])
 DifferInMarks polarity (c ∷ cs) a b =

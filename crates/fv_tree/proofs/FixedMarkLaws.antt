@@ -36,19 +36,19 @@ module _ (e : Extent) (b o : List ℕ) (same : take e.first o ≡ take e.first b
       ((before, part, drop n o, whole, rw fields offset, low, within, is, at), omega (arith, low, inside))
 
 -- the bytes begin with the same header
-header_kept : (b o : List ℕ) (h : HeadFields) (e : Extent) → BeginsVolume h e b → length o ≡ length b → take e.first o ≡ take e.first b
+pub header_kept : (b o : List ℕ) (h : HeadFields) (e : Extent) → BeginsVolume h e b → length o ≡ length b → take e.first o ≡ take e.first b
     → BeginsVolume h e o
 header_kept b o h e front long same =
     let ext = ext_kept e b o same h.ext (front_lies b h e front).least front.ext in
     grind (arith, common_steps, front, front_kept e b o same e.header_len ext.1, ext.0)
 
 -- the new body is in its place, and the number of bytes and the bytes before the body are unchanged
-record Kept (e : Extent) (b o body : List ℕ) : Type 0 where
+pub record Kept (e : Extent) (b o body : List ℕ) : Type 0 where
   pub length_is : length o ≡ length b
   pub prefix : take e.first o ≡ take e.first b
   pub body_is : drop e.first (take e.length o) ≡ body
 
-kept : (b o body : List ℕ) (e : Extent) → Unfixes e b o body → Kept e b o body
+pub kept : (b o body : List ℕ) (e : Extent) → Unfixes e b o body → Kept e b o body
 kept b o body e u =
     let lies = first_lies b u.head e u.begins in
     let long : length body ≡ e.length - e.first = length-unmarks _ _ _ _ _ _ u.marks
@@ -74,7 +74,7 @@ tiled_there b o body e cells u tiles =
     }
 
 -- cells that tile the body of the new volume tile the new body
-body_tiled : (b o body : List ℕ) (e : Extent) (cells : List CellForm) → Unfixes e b o body → BeginsTiled e cells o
+pub body_tiled : (b o body : List ℕ) (e : Extent) (cells : List CellForm) → Unfixes e b o body → BeginsTiled e cells o
     → Tiles e.file_system e.polarity e.first cells body
 body_tiled b o body e cells u tiled = rw (kept b o body e u).body_is at tiled.tiles
 

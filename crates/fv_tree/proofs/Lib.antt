@@ -16,6 +16,7 @@ pub mod LengthLaws
 pub mod ListPairs
 pub mod LocatedLaws
 pub mod LookupLaws
+pub mod LostMarkLaws
 pub mod MeaningLaws
 pub mod NameLaws
 pub mod NamedLaws

@@ -12,6 +12,7 @@ pub mod InputFaults
 pub mod LocatedFiles
 pub mod Unfixing
 pub mod UnfixedInputs
+pub mod LostMarks
 pub mod FileNames
 pub mod LookupInstances
 pub mod SectionWalks

@@ -29,6 +29,7 @@ pub use Rattle.fv_tree.specs.LocatedFiles.{bare_form, file_form, filled, with_da
 pub use Rattle.fv_tree.specs.LocatedFiles.{AreFilesOf, BeginWithFiles, HasDataIn, IsFirstOfFiles}
 pub use Rattle.fv_tree.specs.Unfixing.{Unfixes, IsUnfixed, UnfixStops}
 pub use Rattle.fv_tree.specs.UnfixedInputs.{EndsWithVolume, BytesFollowExtent, UnfixesTo, IsFirstOfMarked, NotUnfixed}
+pub use Rattle.fv_tree.specs.LostMarks.{body_in_volume, LosesMarks, DifferInMarksOnly}
 pub use Rattle.fv_tree.specs.FileNames.{is_named, file_named, HasOrder}
 pub use Rattle.fv_tree.specs.LookupInstances.{number_after, file_after, instance_of, file_of_type, preorder}
 pub use Rattle.fv_tree.specs.LookupInstances.{inside_section, inside_body, of_type, section_of_type, security_core}

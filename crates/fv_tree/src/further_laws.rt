@@ -9,8 +9,9 @@ ghost use Rattle.fv_head.specs.declared.extent.Extent.{Extent};
 ghost use Rattle.fv_tree.specs.Difference.{difference};
 ghost use Rattle.fv_tree.specs.InputFaults.{IsFirstOfInput};
 ghost use Rattle.fv_tree.specs.LocatedFiles.{BeginsTiled, NotTiled};
+ghost use Rattle.fv_tree.specs.LostMarks.{DifferInMarksOnly, LosesMarks};
 ghost use Rattle.fv_tree.specs.Meaning.{Meaning};
-ghost use Rattle.fv_tree.specs.Unfixing.{IsUnfixed};
+ghost use Rattle.fv_tree.specs.Unfixing.{IsUnfixed, UnfixStops};
 
 /// An input has at most one first fault.
 pub fn one_first_fault()
@@ -30,6 +31,29 @@ pub fn every_tiling()
 /// (PI specification, volume 3, section 3.2.3.1, FFS_ATTRIB_FIXED.)
 pub fn unfixed_copies_stay()
     ensures { (b copy : List ℕ) → IsUnfixed b copy → IsUnfixed copy copy }
+{}
+
+/// Bytes have a copy without the marks of the fixed files of their volume, or there is a fault, and
+/// never both. (PI specification, volume 3, section 3.2.3.1, FFS_ATTRIB_FIXED.)
+pub fn every_copy()
+    ensures either { (b : List ℕ) → IsBytes b → ((copy : List ℕ) × IsUnfixed b copy) ⊎ ((f : Fault) × UnfixStops b f) }
+    ensures never { (b copy : List ℕ) (f : Fault) → IsUnfixed b copy → UnfixStops b f → ⊥ }
+{}
+
+/// In an unfixed copy exactly the valid fixed files of the volume have lost their marks: of such a
+/// file, only bit 0x04 of its attributes and its header checksum, which is right, have changed. All
+/// other bytes are the same, and so is the length. (PI specification, volume 3, section 3.2.3.1,
+/// FFS_ATTRIB_FIXED.)
+pub fn only_marks_are_lost()
+    ensures { (b copy : List ℕ) → IsUnfixed b copy
+        → (e : Extent) × (cells : List CellForm) × BeginsTiled e cells copy × LosesMarks e cells b copy }
+{}
+
+/// Two volumes that differ in the marks of fixed files only have the same unfixed copy. (PI
+/// specification, volume 3, section 3.2.3.1, FFS_ATTRIB_FIXED.)
+pub fn marks_do_not_matter()
+    ensures { (a b copy other : List ℕ) (e : Extent) (cells : List CellForm) → IsUnfixed a copy → IsUnfixed b other
+        → BeginsTiled e cells copy → DifferInMarksOnly e cells a b → other ≡ copy }
 {}
 
 /// The first difference of two meanings is at the same place, and of the same kind, whichever of
