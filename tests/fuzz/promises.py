@@ -1,47 +1,45 @@
 # SPDX-License-Identifier: BSD-2-Clause-Patent
-"""The promises of docs/PROGRAM.md that fuzz.py checks: the answers of the program agree with what a maker wrote, and
-with one another. README.md lists the promises."""
+"""The promises of docs/PROGRAM.md that fuzz.py checks: the answers of the program agree with what a maker wrote, with
+one another, and with the second reader. README.md lists the promises."""
 
 import hashlib
-import itertools
 import re
 import uuid
 from collections.abc import Callable
 
-from tests.fuzz.cases import Case, Extent
-from tests.fuzz.program import Program, fault, joined, line, require
+from tests import second_reader
+from tests.fuzz.cases import Case
+from tests.fuzz.program import Answer, Program, fault, joined, line, require
 from tests.making import FIXED
 
 # A check of an accepted volume and its canonical image.
 Check = Callable[[Program, Case, bytes], None]
 LENGTH = 8  # the fault of a wrong length, and of bytes after the volume
 NO_LAYOUT = (22, 23)  # the faults of volumes that have a meaning and no canonical image
-GUID = rb"[0-9a-f]{8}(?:-[0-9a-f]{4}){3}-[0-9a-f]{12}"
-PAD_NOTE = rb"note pad at \d+ holds [1-9]\d* bytes\n"
-DEPEX_NOTE = rb"note depex in " + GUID + rb" fault [1-5] at \d+\n"
-NOTES = re.compile(rb"(?:" + PAD_NOTE + rb")*(?:" + DEPEX_NOTE + rb")*(?:not )?canonical\n")
 VERDICT = re.compile(rb"(?m) (?:canonical|not canonical|fault \d+ at \d+)$")
 SUM = re.compile(rb"(?m) sha256 ([0-9a-f]{64})$")
 
 
+def read(command: str, data: bytes, image: bytes | None = None, base: int = 0) -> Answer:
+    """Returns the answer of the second reader. The answer of `check` has no verdict."""
+    found = second_reader.answer(command, data, image or b"", base=None if image is None else base)
+    return found.status, found.text
+
+
 def check_own(program: Program, case: Case, image: bytes) -> None:
-    """Checks that `check` reports whether the volume is its own image, and that it writes the same notes on expressions
-    for the volume and its image."""
-    status, text = program.ask("check", case.data)
-    is_own = case.data == image
-    require((status == 0) == is_own, f"check: status {status}, and the volume is its image: {is_own}")
-    require(NOTES.fullmatch(text) and text.endswith(b"not canonical\n") != is_own, "check: other text", text)
-    notes, others = (re.findall(rb"(?m)^note depex .*$", it) for it in (text, program.ask("check", image)[1]))
-    require(notes == others, "check: other notes of the image", text, *others)
+    """Checks that `check` reports whether the volume is its own image, after the notes of the second reader, and that
+    the volume and its image have the same notes on expressions."""
+    notes, is_own = read("check", case.data)[1], case.data == image
+    program.expect((1 - is_own, notes + (b"canonical\n" if is_own else b"not canonical\n")), "check", case.data)
+    of_depex, of_image = (re.findall(rb"(?m)^note depex .*$", it) for it in (notes, read("check", image)[1]))
+    require(of_depex == of_image, "check: other notes of the image", notes)
 
 
 def check_listed(program: Program, case: Case, image: bytes) -> None:
-    """Checks that `list` writes the same lines for the volume and for its image, and that `scan` finds the volume."""
-    text = program.told("list", case.data)
-    program.expect((0, text), "list", image)
-    first = re.match(rb"volume ffs[23] length (\d+) files (\d+)(?: name " + GUID + rb")?\n", text)
-    found = [int(it) for it in first.groups()] if first else []
-    require(found == [len(case.data), len(re.findall(rb"(?m)^  file ", text))], "list: another first line", text)
+    """Checks that `list` writes the lines of the second reader for the volume and for its image, and that `scan` finds
+    the volume."""
+    for data in (case.data, image):
+        program.expect(read("list", case.data), "list", data)
     program.expect((0, line(f"volume at 0 length {len(case.data)}")), "scan", case.data)
 
 
@@ -71,14 +69,9 @@ def check_placed(program: Program, case: Case, image: bytes) -> None:
 
 
 def check_cells(program: Program, case: Case, _image: bytes) -> None:
-    """Checks that the lines of `cells` follow one another, and that they include the files that `list` shows."""
-    text = program.told("cells", case.data + program.pick.randbytes(program.pick.choice((0, 0, 5))))
-    places = [(int(at), int(length)) for at, length in re.findall(rb"(?m)^[a-z]+ at (\d+) length (\d+)", text)]
-    ends = [0, *(at + length for at, length in places)]
-    require([at for at, _ in places] + [len(case.data)] == ends, "cells: a gap", text)
-    names = re.findall(rb"(?m)^file at \d+ length \d+ (\S+)", text)
-    listed = re.findall(rb"(?m)^  file \d+ (\S+)", program.told("list", case.data))
-    require({*listed} <= {*names}, "cells: a file that is listed is missing", text, *listed)
+    """Checks that `cells` writes the lines of the second reader, and ignores bytes after the volume."""
+    more = case.data + program.pick.randbytes(program.pick.choice((0, 0, 5)))
+    program.expect(read("cells", case.data), "cells", more)
 
 
 def check_unfixed(program: Program, case: Case, _image: bytes) -> None:
@@ -116,8 +109,9 @@ WAYS: list[Check] = [check_own, check_listed, check_length, check_placed, check_
 def check_accepted(program: Program, case: Case, image: bytes) -> None:
     """Checks an accepted volume and its image."""
     require(len(image) == len(case.data), f"normalise: {len(image)} bytes of {len(case.data)}")
-    text = program.told("check", image)
-    require(NOTES.fullmatch(text) and b"note pad" not in text, "check of the image", text)
+    notes = read("check", image)[1]
+    require(b"note pad" not in notes, "check: a pad of the image", notes)
+    program.expect((0, notes + b"canonical\n"), "check", image)
     program.expect((0, image), "normalise", image)
     program.expect((0, b"same\n"), "compare", case.data, image)
     if case.lines and program.pick.randrange(2):
@@ -135,7 +129,7 @@ def check_refused(program: Program, case: Case, refusal: bytes) -> None:
     command = program.pick.choice(("check", "list", "compare", "scan"))
     status, text = program.ask(command, *[case.data] * (2 if command == "compare" else 1))
     if command == "scan":
-        check_places(program, case, text)
+        check_places(program, case)
     elif number in NO_LAYOUT:
         wanted = {"check": (1, text[:-14] + b"not canonical\n"), "compare": (0, b"same\n")}
         if command == "list":
@@ -162,20 +156,14 @@ def check_volume(program: Program, case: Case) -> str:
     return "accepted"
 
 
-def check_places(program: Program, case: Case, text: bytes) -> None:
-    """Checks the output of `scan`: the volumes are at multiples of 8, they follow one another, and each of them is also
-    found on its own."""
-    places = [Extent(int(offset), int(length)) for offset, length in re.findall(rb"at (\d+) length (\d+)", text)]
-    require(text == joined(f"volume at {it.offset} length {it.length}" for it in places), "scan: other text", text)
-    end = 0
-    for place in places:
-        require(place.offset >= end and place.offset % 8 == 0, "scan: a place", text)
-        end = place.offset + place.length
-    require(end <= len(case.data), "scan: a volume past the end", text)
-    for it in program.pick.sample(places, min(len(places), 1)):
-        alone = case.data[it.offset : it.offset + it.length]
-        program.expect((0, line(f"volume at 0 length {it.length}")), "scan", alone)
-        program.expect(program.ask("list", alone), f"list --at {it.offset}", case.data)
+def check_places(program: Program, case: Case) -> None:
+    """Checks that `scan` finds the volumes of the second reader, and each of them also on its own."""
+    program.expect(read("scan", case.data), "scan", case.data)
+    places = second_reader.places(case.data)
+    for offset, length in program.pick.sample(places, min(len(places), 1)):
+        alone = case.data[offset : offset + length]
+        program.expect((0, line(f"volume at 0 length {length}")), "scan", alone)
+        program.expect(program.ask("list", alone), f"list --at {offset}", case.data)
 
 
 def check_image(program: Program, case: Case) -> str:
@@ -184,7 +172,7 @@ def check_image(program: Program, case: Case) -> str:
     Returns the outcome."""
     text = program.told("scan", case.data)
     require(case.lines is None or text == joined(case.lines), "scan: other volumes", text, case.lines)
-    check_places(program, case, text)
+    check_places(program, case)
     require(VERDICT.sub(b"", program.once("check --all", case.data)[1]) == text, "check --all: other volumes", text)
     status, image = program.ask("normalise --all", case.data)
     if status == 0:
@@ -199,14 +187,13 @@ def check_list(program: Program, case: Case) -> str:
     status, text = program.ask("hobs", case.data, image=case.image, base=case.base)
     is_kept = case.lines is None or (status, text) == (0, joined(case.lines))
     require(is_kept, "hobs: other blocks", text, case.lines)
+    wanted = read("hobs", case.data, case.image, case.base)
+    require((status, text) == wanted, "hobs: another answer", text, wanted)
     if status == 2:
         return "list refused"
-    lengths = [int(it) for it in re.findall(rb"(?m)^hob [0-9a-f]{4} length (\d+)", text)]
-    require(text.endswith(b"hob ffff length 8\nconsumed %d\n" % sum(lengths)), "hobs: another end", text)
-    program.expect((0, re.sub(rb" (?:outside|volume|absent)", b"", text)), "hobs", case.data[: sum(lengths)])
-    count = program.pick.randrange(sum(lengths))
-    start = max(it for it in itertools.accumulate(lengths, initial=0) if it <= count)
-    program.expect(fault(5 if start == count else 1, start, "hob "), "hobs", case.data[:count])
+    size = int(text.split()[-1])
+    for count in (size, program.pick.randrange(size)):
+        program.expect(read("hobs", case.data[:count]), "hobs", case.data[:count])
     return "list accepted"
 
 
