@@ -52,6 +52,6 @@ pub use Rattle.fv_file.proofs.UnmarkLemmas.{length-unmarks}
 -- There is one way to remove all marks.
 pub use Rattle.fv_file.proofs.UnmarkLemmas.{NoneFixed, tiled_unfixed, fault_unfixed, one_unmarked}
 -- The marks can be removed from a body, or a fault that is not Fixed stops this. In the body without marks, each cell has
--- lost its mark. Bodies that differ in marks only have one copy without marks.
+-- lost its mark. Bodies differ in marks only exactly if they have one copy without marks.
 pub use Rattle.fv_file.proofs.LostMarkLemmas.{body_unmarked, marks_never, lost_of}
-pub use Rattle.fv_file.proofs.MarkDifferenceLemmas.{one_lost, other_lost}
+pub use Rattle.fv_file.proofs.MarkDifferenceLemmas.{differ_of, one_lost, other_lost}

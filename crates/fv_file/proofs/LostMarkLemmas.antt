@@ -7,10 +7,10 @@
 --    the body (`marks_decided`). So the marks can be removed, or a fault stops this, and never both (`body_unmarked`,
 --    `marks_never`).
 -- 4. There is one way to remove all marks, so the copy is the copy of the walk (`lost_of`).
-use Rattle.std.proofs.Common.{◌≡◌, ◌≤◌, ◌<◌, ℕ, ◌+◌, ◌-◌, ◌%◌, [], ◌∷◌, ◌++◌, ◌≢◌, ◌⊎◌, if◌then◌else◌, add-zero}
+use Rattle.std.proofs.Common.{◌≡◌, ◌≤◌, ◌<◌, ℕ, ◌+◌, ◌-◌, ◌%◌, [], ◌∷◌, ◌++◌, ◌≢◌, ◌⊎◌, if◌then◌else◌}
 use Rattle.fv_base.proofs.Laws.{List, length, take, drop, refl, sym, ap, ◌∙◌, subst, arith, inl, inr, slice_index, slice_set, Ok, Err, Result, zero, suc}
 use Rattle.fv_base.proofs.Laws.{Bool, true, false, append_assoc, append-nil, length-append, length-take-le, length-drop, take-append-drop, take-add}
-use Rattle.fv_base.proofs.Laws.{First, outer_fault, common_steps, AllAre, all_are, erased_byte, cases_lt, drop-drop, drop_all, get_or-take, take_all, up_is_not_down}
+use Rattle.fv_base.proofs.Laws.{First, outer_fault, AllAre, all_are, erased_byte, cases_lt, drop-drop, drop_all, get_or-take, take_all, up_is_not_down}
 use Rattle.std.proofs.Math.Seq.{take-set-lt}
 use Rattle.std.proofs.lemmas.List.{get_or_past}
 use Rattle.fv_base.specs.declared.fault.Fault.{Fault}

@@ -2,18 +2,22 @@
 -- 1. Two parts that differ in a mark only are the same without their marks (`same_without`).
 -- 2. So the cells of the copy of one body are the cells of the other body without its marks (`other_lost`).
 -- 3. A body has one copy without its marks, cell by cell (`one_lost`).
-use Rattle.std.proofs.Common.{◌≡◌, ◌≤◌, ◌<◌, ℕ, ◌+◌, [], ◌∷◌, ◌++◌, ◌⊎◌, ◌&&◌, not}
+-- 4. Parts that are the same without their marks differ in a mark only (`differs_back`), so bodies that have one copy
+--    differ in marks only (`differ_of`).
+use Rattle.std.proofs.Common.{◌≡◌, ◌≤◌, ◌<◌, ℕ, ◌+◌, [], ◌∷◌, ◌++◌, ◌⊎◌, ◌&&◌}
 use Rattle.fv_base.proofs.Laws.{List, length, take, drop, refl, sym, ap, ◌∙◌, subst, arith, inl, inr, slice_index, Bool, true, false, same_cut}
-use Rattle.fv_base.proofs.Laws.{append-nil, length-append, take-append-drop, take_at, drop_at, cases_lt, and_split, up_is_not_down}
-use Rattle.std.proofs.lemmas.Bool.{not-true}
+use Rattle.fv_base.proofs.Laws.{append-nil, length-append, take-append-drop, take_at, drop_at, and_split, IsBytes, bytes_front, bytes_back}
+use Rattle.std.proofs.lemmas.Bool.{cases_Bool, eqb-false, not-true}
+use Rattle.std.proofs.lemmas.Grind.{same_number_lists}
+use Rattle.std.proofs.Common.{eqb-true, ◌==◌, ◌-◌, ◌%◌}
 use Rattle.fv_base.specs.declared.flash.FileSystem.{FileSystem}
 use Rattle.fv_base.specs.declared.flash.Polarity.{Polarity}
 use Rattle.fv_file.specs.Words.{DiffersInMark, DifferInMarks, TilesUnmarked, is_marked, without_mark}
-use Rattle.fv_file.specs.Words.{CellForm, IsCell, attributes_at, cell_len, is_fixed, is_free, offset_of, unmarked}
+use Rattle.fv_file.specs.Words.{CellForm, IsCell, attributes_at, cell_len, is_fixed, is_free, unmarked}
 use Rattle.fv_file.proofs.CellPartLemmas.{cell_least, cell_span, not_empty}
 use Rattle.fv_file.proofs.CellVerdictLemmas.{one_cell}
 use Rattle.fv_file.proofs.LostMarkLemmas.{drop_without, length-without, marked_is, marked_long, take_without, unmarked_is}
-use Rattle.fv_file.proofs.MarkedFileLemmas.{length-unmarked, moves}
+use Rattle.fv_file.proofs.MarkedFileLemmas.{attributes, header_sum, least, length-unmarked, moves, other}
 
 -- ---- 1. two parts
 
@@ -102,3 +106,72 @@ one_lost s p at (c ∷ cs) (d ∷ ds) b o x (u, w, v, e, e', is, place, last, mo
     subst (λ (n : ℕ). TilesUnmarked s p (at + n) ds w v') (sym long) (subst (λ (l : List ℕ). TilesUnmarked s p (at + length u') ds l v') (sym back) more') in
     let behind : v' ≡ v = one_lost s p (at + length u) cs ds w v v' more rest in
     f' ∙ ap (λ (l : List ℕ). without_mark p l ++ v') (sym front) ∙ ap (λ (l : List ℕ). without_mark p u ++ l) behind ∙ sym e'
+
+-- ---- 4. bodies that have one copy
+
+-- bytes of a fixed file follow from the bytes without its mark
+same_before : (x y : List ℕ) → 24 ≤ length x → is_fixed (attributes_at x) ≡ true → 24 ≤ length y → is_fixed (attributes_at y) ≡ true
+    → IsBytes x → IsBytes y → unmarked 0 x ≡ unmarked 0 y → x ≡ y
+same_before x y long fixed long' fixed' small small' same =
+    same_number_lists x y (sym (length-unmarked 0 x) ∙ ap length same ∙ length-unmarked 0 y) (λ k inside. by_place k)
+  where
+    at : (k : ℕ) → slice_index (unmarked 0 x) k ≡ slice_index (unmarked 0 y) k
+    at k = ap (λ (l : List ℕ). slice_index l k) same
+
+    bits : slice_index x 19 ≡ slice_index y 19
+    bits =
+        let less : slice_index x 19 - 4 ≡ slice_index y 19 - 4 = sym (attributes x long fixed) ∙ at 19 ∙ attributes y long' fixed' in
+        omega (arith, less, least x long fixed, least y long' fixed')
+
+    sums : slice_index x 16 ≡ slice_index y 16
+    sums =
+        let more : (slice_index x 16 + 4) % 256 ≡ (slice_index y 16 + 4) % 256 = sym (header_sum x long fixed) ∙ at 16 ∙ header_sum y long' fixed' in
+        omega (arith, more, small 16, small' 16)
+
+    by_place : (k : ℕ) → slice_index x k ≡ slice_index y k
+    by_place k = elim (cases_Bool (k == 16)) [
+      | inl is ↦ rw (eqb-true k 16 is) sums
+      | inr far ↦ elim (cases_Bool (k == 19)) [
+        | inl is ↦ rw (eqb-true k 19 is) bits
+        | inr away ↦ sym (other x long fixed k (eqb-false k 16 far) (eqb-false k 19 away)) ∙ at k
+            ∙ other y long' fixed' k (eqb-false k 16 far) (eqb-false k 19 away)
+      ]
+    ]
+
+marked_fixed : (p : Polarity) (x : List ℕ) → is_marked p x ≡ true → is_fixed (attributes_at x) ≡ true
+marked_fixed p x marked = (and_split _ (is_fixed (attributes_at x)) marked).1
+
+differs_back : (p : Polarity) (x y : List ℕ) → IsBytes x → IsBytes y → without_mark p x ≡ without_mark p y → DiffersInMark p x y
+differs_back p x y small small' same = go (is_marked p x) (is_marked p y) refl refl where
+  go : (a b : Bool) → is_marked p x ≡ a → is_marked p y ≡ b → DiffersInMark p x y
+  go false false e f = inl (sym (unmarked_is p x e) ∙ same ∙ unmarked_is p y f)
+  go true false e f = inr (inl (e, sym (unmarked_is p y f) ∙ sym same ∙ marked_is p x e))
+  go false true e f = inr (inr (f, sym (unmarked_is p x e) ∙ same ∙ marked_is p y f))
+  go true true e f =
+      inl (same_before x y (marked_long p x e) (marked_fixed p x e) (marked_long p y f) (marked_fixed p y f) small small'
+      (sym (marked_is p x e) ∙ same ∙ marked_is p y f))
+
+pub differ_of : (s : FileSystem) (p : Polarity) (at : ℕ) (cs : List CellForm) (a b o : List ℕ) → IsBytes a → IsBytes b
+    → TilesUnmarked s p at cs a o → TilesUnmarked s p at cs b o → DifferInMarks p cs a b
+differ_of s p at [] a b o small small' (none, none') (nil, nil') = (none, nil)
+differ_of s p at (c ∷ cs) a b o small small' (u, w, v, e, e', is, place, last, more) (u', w', v', f, f', is', place', last', more') =
+    let size : length u ≡ cell_len c = sym (cell_span s p c (without_mark p u) is ∙ length-without p u) in
+    let size' : length u' ≡ cell_len c = sym (cell_span s p c (without_mark p u') is' ∙ length-without p u') in
+    let long : length (without_mark p u) ≡ length (without_mark p u') = length-without p u ∙ size ∙ sym size' ∙ sym (length-without p u') in
+    let cut = same_cut (without_mark p u) (without_mark p u') v v' long (sym e' ∙ f') in
+    let front : without_mark p u ≡ without_mark p u' = cut.0 in
+    let back : v ≡ v' = cut.1 in
+    let bytes : IsBytes (u ++ w) = subst IsBytes e small in
+    let bytes' : IsBytes (u' ++ w') = subst IsBytes f small' in
+    let rest : TilesUnmarked s p (at + length u) cs w' v =
+    subst (λ (n : ℕ). TilesUnmarked s p (at + n) cs w' v) (size' ∙ sym size) (subst (TilesUnmarked s p (at + length u') cs w') (sym back) more') in (
+      u,
+      u',
+      w,
+      w',
+      e,
+      f,
+      size,
+      differs_back p u u' (bytes_front u w bytes) (bytes_front u' w' bytes') front,
+      differ_of s p (at + length u) cs w w' v (bytes_back u w bytes) (bytes_back u' w' bytes') more rest,
+    )

@@ -114,17 +114,21 @@ not_fixed_less : (a : ℕ) → is_fixed a ≡ true → is_fixed (a - 4) ≡ fals
 not_fixed_less a h = grind (arith, nat_tests)
 
 module _ (r : List ℕ) (long : 24 ≤ length r) (fixed : is_fixed (attributes_at r) ≡ true) where
-  abbrev value : ℕ
+  abbrev pub value : ℕ
   value = (slice_index r 16 + 4) % 256
 
-  least : 4 ≤ slice_index r 19
+  pub least : 4 ≤ slice_index r 19
   least = fixed_least (slice_index r 19) fixed
 
-  other : (i : ℕ) → i ≢ 16 → i ≢ 19 → slice_index (unmarked 0 r) i ≡ slice_index r i
+  pub other : (i : ℕ) → i ≢ 16 → i ≢ 19 → slice_index (unmarked 0 r) i ≡ slice_index r i
   other i n m = get_or-set_other (slice_set r 16 value) 19 i (slice_index r 19 - 4) 0 m ∙ get_or-set_other r 16 i value 0 n
 
-  attributes : attributes_at (unmarked 0 r) ≡ slice_index r 19 - 4
+  pub attributes : attributes_at (unmarked 0 r) ≡ slice_index r 19 - 4
   attributes = get_or-set_same (slice_set r 16 value) 19 (slice_index r 19 - 4) 0 (omega (arith, long, length-set r 16 value))
+
+  pub header_sum : slice_index (unmarked 0 r) 16 ≡ value
+  header_sum = get_or-set_other (slice_set r 16 value) 19 16 (slice_index r 19 - 4) 0 (λ e. omega (arith, e))
+      ∙ get_or-set_same r 16 value 0 (omega (arith, long))
 
   large : is_large (attributes_at (unmarked 0 r)) ≡ is_large (attributes_at r)
   large = ap is_large attributes ∙ ap (λ (n : ℕ). n == 1) (even_less (slice_index r 19) least)

@@ -2,7 +2,7 @@
 //! are the laws.
 
 ghost use Rattle.std.specs.Prelude.{◌≡◌, ◌⊎◌, ◌%◌, ℕ, List, length};
-ghost use Rattle.fv_base.specs.Words.{IsFirstFault};
+ghost use Rattle.fv_base.specs.Words.{IsBytes, IsFirstFault};
 ghost use Rattle.fv_base.specs.declared.fault.Fault.{Fault};
 ghost use Rattle.fv_base.specs.declared.flash.FileSystem.{FileSystem};
 ghost use Rattle.fv_base.specs.declared.flash.Polarity.{Polarity};
@@ -52,10 +52,15 @@ pub fn only_marks_are_lost()
 {}
 
 /// Two bodies that differ in the marks of fixed files only have the same bytes after all these marks
-/// were taken away. (PI specification, volume 3, section 3.2.3.1, `FFS_ATTRIB_FIXED`.)
+/// were taken away. Two bodies that have the same bytes then differ in these marks only. (PI
+/// specification, volume 3, section 3.2.3.1, `FFS_ATTRIB_FIXED`.)
 pub fn marks_do_not_matter()
-    ensures { (s : FileSystem) (p : Polarity) (first : ℕ) (places others a b o x : List ℕ) (cells ds : List CellForm)
+    ensures same { (s : FileSystem) (p : Polarity) (first : ℕ) (places others a b o x : List ℕ) (cells ds : List CellForm)
         → length a % 8 ≡ 0 → length b % 8 ≡ 0
         → Unmarks s p first places a o → Tiles s p first cells o → Unmarks s p first others b x → Tiles s p first ds x
         → DifferInMarks p cells a b → x ≡ o }
+    ensures differ { (s : FileSystem) (p : Polarity) (first : ℕ) (places others a b o : List ℕ) (cells : List CellForm)
+        → length a % 8 ≡ 0 → length b % 8 ≡ 0 → IsBytes a → IsBytes b
+        → Unmarks s p first places a o → Unmarks s p first others b o → Tiles s p first cells o
+        → DifferInMarks p cells a b }
 {}

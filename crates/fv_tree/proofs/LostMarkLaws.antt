@@ -2,13 +2,13 @@
 -- without them. The steps:
 -- 1. The body of the copy is the new body, and the bytes after the volume are unchanged (`body_is`, `rest_kept`).
 -- 2. Each cell of the body has lost its mark (`marks_lost`), so volumes that differ in marks only have one copy
---    (`one_copy`).
+--    (`one_copy`), and volumes that have one copy differ in marks only (`differ_only`).
 -- 3. Bytes have an unfixed copy, or a fault stops this (`copy_decided`).
-use Rattle.std.proofs.Common.{◌≡◌, ℕ, ◌+◌, ◌-◌, ◌%◌, ◌++◌, ◌⊎◌, List, length, take, drop, refl, sym, ap, ◌∙◌, subst, arith, append_assoc, inl, inr}
-use Rattle.fv_base.proofs.Laws.{IsBytes, drop_at, drop-take, field, length-append, length-drop, length-take-le}
+use Rattle.std.proofs.Common.{◌≡◌, ℕ, ◌+◌, ◌-◌, ◌%◌, ◌++◌, ◌⊎◌, List, length, take, drop, sym, ap, ◌∙◌, subst, arith, append_assoc, inl, inr}
+use Rattle.fv_base.proofs.Laws.{IsBytes, bytes_drop, bytes_take, drop_at, drop-take, length-append, length-drop, length-take-le}
 use Rattle.fv_base.specs.declared.fault.Fault.{Fault}
-use Rattle.fv_file.specs.Words.{CellForm, Tiles, TilesUnmarked}
-use Rattle.fv_file.proofs.Laws.{body_unmarked, length-unmarks, lost_of, one_lost, only_one, other_lost}
+use Rattle.fv_file.specs.Words.{CellForm, TilesUnmarked}
+use Rattle.fv_file.proofs.Laws.{body_unmarked, differ_of, length-unmarks, lost_of, one_lost, other_lost}
 use Rattle.fv_head.specs.Words.{HeadFields, BeginsVolume}
 use Rattle.fv_head.specs.declared.extent.Extent.{Extent}
 use Rattle.fv_head.proofs.Laws.{first_lies, front_decided, one_front}
@@ -84,6 +84,30 @@ one_copy a b o x e cells (f, body, u, (cs, tiled')) (g, other, v, (ds, tiled''))
     let second : g ≡ e = (one_front b v.head u'.head g e v.begins begins).1 in
     same_copy a b o x body other e cells ds u' (subst (λ (y : Extent). Unfixes y b x other) second v) tiled
     (subst (λ (y : Extent). BeginsTiled y ds x) second tiled'') differ
+
+-- volumes of one extent that have one copy differ in marks only
+differ_there : (a b o body other : List ℕ) (e : Extent) (cells : List CellForm) → IsBytes a → IsBytes b → Unfixes e a o body
+    → Unfixes e b o other → BeginsTiled e cells o → DifferInMarksOnly e cells a b
+differ_there a b o body other e cells small small' u v tiled =
+    let k = kept a o body e u in
+    let m = kept b o other e v in
+    let bodies : other ≡ body = sym (body_is b o other e v) ∙ body_is a o body e u in
+    let n : ℕ = e.length - e.first in
+    record {
+      length_is = sym k.length_is ∙ m.length_is;
+      front = sym k.prefix ∙ m.prefix;
+      rest = sym (rest_kept a o body e u) ∙ rest_kept b o other e v;
+      parts = differ_of e.file_system e.polarity e.first cells (body_in_volume e a) (body_in_volume e b) body
+          (bytes_take n (drop e.first a) (bytes_drop e.first a small)) (bytes_take n (drop e.first b) (bytes_drop e.first b small'))
+          (parts_lost a o body e cells u tiled)
+          (subst (TilesUnmarked e.file_system e.polarity e.first cells (body_in_volume e b)) bodies (parts_lost b o other e cells v tiled));
+    }
+
+pub differ_only : (a b o : List ℕ) → IsBytes a → IsBytes b → IsUnfixed a o → IsUnfixed b o
+    → (e : Extent) × (cells : List CellForm) × BeginsTiled e cells o × DifferInMarksOnly e cells a b
+differ_only a b o small small' (e, body, u, (cells, tiled)) (g, other, v, (ds, tiled')) =
+    let one : g ≡ e = (one_front o tiled'.head tiled.head g e tiled'.begins tiled.begins).1 in
+    (e, cells, tiled, differ_there a b o body other e cells small small' u (subst (λ (y : Extent). Unfixes y b o other) one v) tiled)
 
 -- ---- 3. a copy or a fault
 

@@ -49,11 +49,14 @@ pub fn only_marks_are_lost()
         → (e : Extent) × (cells : List CellForm) × BeginsTiled e cells copy × LosesMarks e cells b copy }
 {}
 
-/// Two volumes that differ in the marks of fixed files only have the same unfixed copy. (PI
-/// specification, volume 3, section 3.2.3.1, FFS_ATTRIB_FIXED.)
+/// Two volumes that differ in the marks of fixed files only have the same unfixed copy. Two volumes
+/// that have the same unfixed copy differ in these marks only. (PI specification, volume 3, section
+/// 3.2.3.1, FFS_ATTRIB_FIXED.)
 pub fn marks_do_not_matter()
-    ensures { (a b copy other : List ℕ) (e : Extent) (cells : List CellForm) → IsUnfixed a copy → IsUnfixed b other
+    ensures same { (a b copy other : List ℕ) (e : Extent) (cells : List CellForm) → IsUnfixed a copy → IsUnfixed b other
         → BeginsTiled e cells copy → DifferInMarksOnly e cells a b → other ≡ copy }
+    ensures differ { (a b copy : List ℕ) → IsBytes a → IsBytes b → IsUnfixed a copy → IsUnfixed b copy
+        → (e : Extent) × (cells : List CellForm) × BeginsTiled e cells copy × DifferInMarksOnly e cells a b }
 {}
 
 /// The first difference of two meanings is at the same place, and of the same kind, whichever of
