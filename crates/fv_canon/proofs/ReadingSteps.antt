@@ -19,7 +19,7 @@ use Rattle.std.specs.Option.{is_none}
 use Rattle.fv_file.specs.Words.{CellForm, Free, Tiles, cell_len, cell_checks, head_in, payload_at, state_at, state_of}
 use Rattle.fv_file.specs.declared.state.FileState.TheVariants.{DataValid}
 use Rattle.fv_file.specs.inner.CellVerdicts.{cell_in}
-use Rattle.fv_file.proofs.CellFoundLemmas.{cell_stands}
+use Rattle.fv_file.proofs.Laws.{cell_stands}
 use Rattle.fv_head.specs.Words.{BeginsVolume, Extension, HasExt, HeadFields, extent_of, head_checks, header_len_at, pairs_of, system_guid}
 use Rattle.fv_head.specs.inner.HeadVerdicts.{extent_at}
 use Rattle.fv_head.proofs.Laws.{front_decided, front_extent}

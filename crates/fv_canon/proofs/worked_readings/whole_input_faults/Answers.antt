@@ -4,8 +4,7 @@ use Rattle.fv_base.specs.Words.{all_are}
 use Rattle.fv_file.specs.Words.{state_of}
 use Rattle.fv_head.specs.Words.{Extension, extent_of}
 use Rattle.fv_tree.specs.Words.{Accepted, File, FileMeanings, MoreFiles, NoFiles, Plain, Volume, top_name}
-use Rattle.fv_tree.proofs.Laws.{end_refused}
-use Rattle.fv_tree.proofs.MeaningLaws.{one_beginning}
+use Rattle.fv_tree.proofs.Laws.{end_refused, one_beginning}
 use Rattle.fv_canon.specs.Words.{empty_volume, head, misaligned_top, no_room_for_pad}
 use Rattle.fv_canon.proofs.ReadingSteps.{accepts, empty_read, extent, guid, IsHeadOf, IsReadBy}
 use Rattle.fv_canon.proofs.worked_readings.whole_input_faults.Goals as goal
