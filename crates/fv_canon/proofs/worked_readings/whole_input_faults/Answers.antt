@@ -23,16 +23,26 @@ returns-clause-no_room c =
     let fields : IsHeadOf 104 b =
     record { zero_vector = refl; file_system = refl; volume_length = refl; attributes = refl; reserved = refl; block_map = refl } in
     let accepted : Accepted b (Volume (head 104 (Some x)) NoFiles) =
-    accepts 0 104 96 (Some x) NoFiles b read fields (take 72 b, take 20 (drop 72 b), drop 92 b, refl, refl, lit≤ tt, lit≤ tt, record {
-      head = 0x14 ∷ 0 ∷ 0 ∷ 0 ∷ [];
-      rest = [];
-      text = refl;
-      name_length = refl;
-      head_length = refl;
-      size = refl;
-      most = lit≤ tt;
-      entries = (refl, inl (lit< tt));
-    }, refl) refl (tt, tt) tt in
+    accepts 0 104 96 (Some x) NoFiles b read fields (
+      take 72 b,
+      take 20 (drop 72 b),
+      drop 92 b,
+      refl,
+      refl,
+      lit≤ tt,
+      lit≤ tt,
+      record {
+        head = 0x14 ∷ 0 ∷ 0 ∷ 0 ∷ [];
+        rest = [];
+        text = refl;
+        name_length = refl;
+        head_length = refl;
+        size = refl;
+        most = lit≤ tt;
+        entries = (refl, inl (lit< tt));
+      },
+      refl,
+    ) refl (tt, tt) tt in
     inr (_, accepted, inl (inr (record { top_is_aligned = λ none. none; none = λ starts p. omega (arith, p.room) }, refl)))
 
 pub returns-clause-top_alignment : goal.returns-clause-top_alignment
