@@ -19,7 +19,7 @@ use Rattle.std.specs.Option.{is_none}
 use Rattle.fv_file.specs.Words.{CellForm, Free, Tiles, cell_len, cell_checks, head_in, payload_at, state_at, state_of}
 use Rattle.fv_file.specs.declared.state.FileState.TheVariants.{DataValid}
 use Rattle.fv_file.specs.inner.CellVerdicts.{cell_in}
-use Rattle.fv_file.proofs.CellFoundLemmas.{cell_stands}
+use Rattle.fv_file.proofs.Laws.{cell_stands}
 use Rattle.fv_head.specs.Words.{BeginsVolume, Extension, HasExt, HeadFields, extent_of, head_checks, header_len_at, pairs_of, system_guid}
 use Rattle.fv_head.specs.inner.HeadVerdicts.{extent_at}
 use Rattle.fv_head.proofs.Laws.{front_decided, front_extent}
@@ -91,15 +91,19 @@ pub cell_rejects : (x : Extent) (b : List ℕ) (kind : FaultKind) (at : ℕ) →
     → Rejects b (outer_fault kind at)
 cell_rejects x b kind at is some used fails =
     let body : List ℕ = drop x.first (take x.length b) in
-    body_rejects x b _ is (inl (_, inl (record {
-      cells = [];
-      at = 0;
-      tiled = refl;
-      none_free = tt;
-      inside = ltb-true 0 (length body) some;
-      not_erased = λ all. up_is_not_down _ (all-all_are (erased_byte x.polarity) body all) used;
-      fails = first_is _ _ fails;
-    }), stays kind at))
+    body_rejects x b _ is (inl (
+      _,
+      inl (record {
+        cells = [];
+        at = 0;
+        tiled = refl;
+        none_free = tt;
+        inside = ltb-true 0 (length body) some;
+        not_erased = λ all. up_is_not_down _ (all-all_are (erased_byte x.polarity) body all) used;
+        fails = first_is _ _ fails;
+      }),
+      stays kind at,
+    ))
 
 -- ---- cells
 
@@ -133,9 +137,15 @@ tiled (suc n) s p at r eighths h =
     let both = and_split _ _ h in
     let stands = cell_stands s p at r eighths (none_is _ both.0) in
     let long : length (take len r) ≡ len = length-take-le len r stands.within in
-    let rest = tiled n s p (at + len) (drop len r) (omega (arith, length-drop len r, eighths, stands.multiple, stands.within)) both.1 in
-    (take len r, drop len r, sym (take-append-drop len r), stands.cell, stands.place, λ free. absurd (up_is_not_down _ free stands.not_free),
-    subst (λ (k : ℕ). Tiles s p (at + k) (cells_by n s p (at + len) (drop len r)) (drop len r)) (sym long) rest)
+    let rest = tiled n s p (at + len) (drop len r) (omega (arith, length-drop len r, eighths, stands.multiple, stands.within)) both.1 in (
+      take len r,
+      drop len r,
+      sym (take-append-drop len r),
+      stands.cell,
+      stands.place,
+      λ free. absurd (up_is_not_down _ free stands.not_free),
+      subst (λ (k : ℕ). Tiles s p (at + k) (cells_by n s p (at + len) (drop len r)) (drop len r)) (sym long) rest,
+    )
 
 -- ---- the files of a volume
 
@@ -260,17 +270,19 @@ pub accepts : (n length_is first : ℕ) (ext : Option Extension) (ms : FileMeani
 accepts n length_is first ext ms b read fields there long names meanings =
     let x : Extent = extent_of (head length_is ext) first in
     let cells : List CellForm = cells_by n x.file_system x.polarity first (body_of_extent x b) in
-    let tiles = tiled n x.file_system x.polarity first (body_of_extent x b) read.eighths read.cells in
-    (small b read.front.bytes, record {
-      extent = x;
-      begins = begins length_is first ext b read.front fields there;
-      length_is = long;
-      cells = cells;
-      tiles = subst (λ (c : List ℕ). Tiles x.file_system x.polarity first cells (drop first c)) (take_all length_is b (omega (arith, long))) tiles;
-      files = current_in (files_by n x b);
-      current = record { no_twins = names.0; files_are = refl; top = names.1 };
-      meanings = meanings;
-    })
+    let tiles = tiled n x.file_system x.polarity first (body_of_extent x b) read.eighths read.cells in (
+      small b read.front.bytes,
+      record {
+        extent = x;
+        begins = begins length_is first ext b read.front fields there;
+        length_is = long;
+        cells = cells;
+        tiles = subst (λ (c : List ℕ). Tiles x.file_system x.polarity first cells (drop first c)) (take_all length_is b (omega (arith, long))) tiles;
+        files = current_in (files_by n x b);
+        current = record { no_twins = names.0; files_are = refl; top = names.1 };
+        meanings = meanings;
+      },
+    )
 
 -- ---- volumes without files
 

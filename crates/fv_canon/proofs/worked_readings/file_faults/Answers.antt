@@ -29,15 +29,19 @@ unfolding all_are state_of
 returns-clause-section_size c =
     let b : List ℕ = volume_with (file_header_bytes 0x0a 0x42 0xaa 2 0 28 ++ (3 ∷ 0 ∷ 0 ∷ 0x19 ∷ [])) in
     let read : IsReadBy 1 (extent 128) b = record { front = record { bytes = refl; checks = refl; file_system = refl; extent_is = refl }; eighths = refl; cells = refl } in
-    file_rejects 1 (extent 128) b _ (file_at 72 b) read ((refl, tt), λ top. cc) refl refl (inl (outer_fault kinds.SectionSize 0, record {
-      frames = [];
-      tail = 0;
-      at = 0;
-      split = (refl, refl);
-      multiple = refl;
-      inside = lit< tt;
-      fails = first_is _ _ refl;
-    }, refl))
+    file_rejects 1 (extent 128) b _ (file_at 72 b) read ((refl, tt), λ top. cc) refl refl (inl (
+      outer_fault kinds.SectionSize 0,
+      record {
+        frames = [];
+        tail = 0;
+        at = 0;
+        split = (refl, refl);
+        multiple = refl;
+        inside = lit< tt;
+        fails = first_is _ _ refl;
+      },
+      refl,
+    ))
 
 pub returns-clause-section_tail : goal.returns-clause-section_tail
 unfolding all_are state_of
@@ -45,19 +49,29 @@ returns-clause-section_tail c =
     let b : List ℕ = volume_with (file_header_bytes 0x0a 0x40 0xaa 2 0 30 ++ (4 ∷ 0 ∷ 0 ∷ 0x19 ∷ 0 ∷ 0 ∷ [])) in
     let read : IsReadBy 1 (extent 128) b = record { front = record { bytes = refl; checks = refl; file_system = refl; extent_is = refl }; eighths = refl; cells = refl } in
     let f : FrameForm = record { offset = 0; kind = 0x19; extended = false; body = [] } in
-    file_rejects 1 (extent 128) b _ (file_at 72 b) read ((refl, tt), λ top. cc) refl refl (inl (outer_fault kinds.SectionTail 4, record {
-      frames = f ∷ [];
-      tail = 0;
-      at = 4;
-      split = ([], record {
-        head = 4 ∷ 0 ∷ 0 ∷ 0x19 ∷ [];
-        is_header = record { header_length = refl; kind_is = refl; states = (refl, λ long. omega (arith, long)) };
-        text = refl;
-      }, refl, refl, lit≤ tt);
-      multiple = refl;
-      inside = lit< tt;
-      fails = first_is _ _ refl;
-    }, refl))
+    file_rejects 1 (extent 128) b _ (file_at 72 b) read ((refl, tt), λ top. cc) refl refl (inl (
+      outer_fault kinds.SectionTail 4,
+      record {
+        frames = f ∷ [];
+        tail = 0;
+        at = 4;
+        split = (
+          [],
+          record {
+            head = 4 ∷ 0 ∷ 0 ∷ 0x19 ∷ [];
+            is_header = record { header_length = refl; kind_is = refl; states = (refl, λ long. omega (arith, long)) };
+            text = refl;
+          },
+          refl,
+          refl,
+          lit≤ tt,
+        );
+        multiple = refl;
+        inside = lit< tt;
+        fails = first_is _ _ refl;
+      },
+      refl,
+    ))
 
 pub returns-clause-depth : goal.returns-clause-depth
 unfolding all_are state_of

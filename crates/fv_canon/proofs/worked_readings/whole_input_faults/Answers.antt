@@ -4,8 +4,7 @@ use Rattle.fv_base.specs.Words.{all_are}
 use Rattle.fv_file.specs.Words.{state_of}
 use Rattle.fv_head.specs.Words.{Extension, extent_of}
 use Rattle.fv_tree.specs.Words.{Accepted, File, FileMeanings, MoreFiles, NoFiles, Plain, Volume, top_name}
-use Rattle.fv_tree.proofs.Laws.{end_refused}
-use Rattle.fv_tree.proofs.MeaningLaws.{one_beginning}
+use Rattle.fv_tree.proofs.Laws.{end_refused, one_beginning}
 use Rattle.fv_canon.specs.Words.{empty_volume, head, misaligned_top, no_room_for_pad}
 use Rattle.fv_canon.proofs.ReadingSteps.{accepts, empty_read, extent, guid, IsHeadOf, IsReadBy}
 use Rattle.fv_canon.proofs.worked_readings.whole_input_faults.Goals as goal
@@ -24,16 +23,26 @@ returns-clause-no_room c =
     let fields : IsHeadOf 104 b =
     record { zero_vector = refl; file_system = refl; volume_length = refl; attributes = refl; reserved = refl; block_map = refl } in
     let accepted : Accepted b (Volume (head 104 (Some x)) NoFiles) =
-    accepts 0 104 96 (Some x) NoFiles b read fields (take 72 b, take 20 (drop 72 b), drop 92 b, refl, refl, lit≤ tt, lit≤ tt, record {
-      head = 0x14 ∷ 0 ∷ 0 ∷ 0 ∷ [];
-      rest = [];
-      text = refl;
-      name_length = refl;
-      head_length = refl;
-      size = refl;
-      most = lit≤ tt;
-      entries = (refl, inl (lit< tt));
-    }, refl) refl (tt, tt) tt in
+    accepts 0 104 96 (Some x) NoFiles b read fields (
+      take 72 b,
+      take 20 (drop 72 b),
+      drop 92 b,
+      refl,
+      refl,
+      lit≤ tt,
+      lit≤ tt,
+      record {
+        head = 0x14 ∷ 0 ∷ 0 ∷ 0 ∷ [];
+        rest = [];
+        text = refl;
+        name_length = refl;
+        head_length = refl;
+        size = refl;
+        most = lit≤ tt;
+        entries = (refl, inl (lit< tt));
+      },
+      refl,
+    ) refl (tt, tt) tt in
     inr (_, accepted, inl (inr (record { top_is_aligned = λ none. none; none = λ starts p. omega (arith, p.room) }, refl)))
 
 pub returns-clause-top_alignment : goal.returns-clause-top_alignment

@@ -36,9 +36,11 @@ returns-clause-stack c = fault_after _ [] stages.Start (0x03 ∷ 0x08 ∷ []) _ 
 
 -- TRUE may be the first op, and may follow one value
 pub returns-clause-two_values : goal.returns-clause-two_values
-returns-clause-two_values c = fault_after _ (ops.True ∷ ops.True ∷ []) (stages.Values 2) (0x08 ∷ []) _
-    (record { known = refl; placed = refl; valued = refl; sized = refl }, (λ ends. cc),
-    (record { known = refl; placed = refl; valued = refl; sized = refl }, (λ ends. cc), refl)) refl
+returns-clause-two_values c = fault_after _ (ops.True ∷ ops.True ∷ []) (stages.Values 2) (0x08 ∷ []) _ (
+  record { known = refl; placed = refl; valued = refl; sized = refl },
+  (λ ends. cc),
+  (record { known = refl; placed = refl; valued = refl; sized = refl }, (λ ends. cc), refl),
+) refl
 
 pub returns-clause-no_end : goal.returns-clause-no_end
 returns-clause-no_end c = fault_after _ (ops.True ∷ []) (stages.Values 1) [] _
