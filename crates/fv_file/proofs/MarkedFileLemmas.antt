@@ -4,6 +4,7 @@
 --    The header of a cell that is read does not show a mark that has to be taken away (`cell_moves`).
 -- 2. Without the mark, all bytes but two are the same (`other`, `behind_mark`). One of the two bytes is more by 4, and
 --    the other is less by 4, so the sum of the header is the same modulo 256 (`front_sum`, `middle_sum`, `around_sum`).
+--    The other fields are the same (`fields_kept`).
 -- 3. So the header is right as before (`right_still`), and the data are checked as before (`skipped_same`,
 --    `file_sum_same`).
 -- 4. So if the fault of a file is Fixed, the file without its mark is a cell (`cell_without`), or its fault is FileSum
@@ -22,7 +23,7 @@ use Rattle.fv_base.specs.declared.flash.FileSystem.{FileSystem}
 use Rattle.fv_base.specs.declared.flash.Polarity.{Polarity}
 use Rattle.fv_file.specs.Words.{CellForm, cell_len, attributes_at, state_at, is_fixed, is_large, is_summed, is_alive, file_header_len, file_size_in}
 use Rattle.fv_file.specs.Words.{file_header_len_at, file_size_at, payload_at, header_sum_of, allows_large, state_of, has_file_sum, skips_data}
-use Rattle.fv_file.specs.Words.{unmarked, pad_kind, file_checks, state_checks, bits_of, is_valid_state}
+use Rattle.fv_file.specs.Words.{unmarked, but_for_mark, head_in, pad_kind, file_checks, state_checks, bits_of, is_valid_state}
 use Rattle.fv_file.specs.declared.state.FileState.{FileState}
 use Rattle.fv_file.specs.inner.CellVerdicts.{is_held, file_verdict, cell_verdict, cell_with, sort_of, sort_checks, stray, StateSort}
 use Rattle.fv_file.proofs.FileVerdictLemmas.{IsHeaderRight, data_right, data_wrong, sizes, MarkedFile, held, marked_file}
@@ -154,6 +155,14 @@ module _ (r : List ℕ) (long : 24 ≤ length r) (fixed : is_fixed (attributes_a
   size_same : file_size_at (unmarked 0 r) ≡ file_size_at r
   size_same = ap (λ (t : Bool). file_size_in t (unmarked 0 r)) large ∙ size_kept (is_large (attributes_at r))
 
+  -- the fields are the same, except for the header checksum and the attributes
+  name_same : take 16 (unmarked 0 r) ≡ take 16 r
+  name_same = take-set-le 16 (slice_set r 16 value) 19 (slice_index r 19 - 4) (omega arith) ∙ take-set-le 16 r 16 value (omega arith)
+
+  pub fields_kept : (state : FileState) → head_in state (unmarked 0 r) ≡ but_for_mark (head_in state r)
+  fields_kept state = rw (name_same, header_sum, other 17 (λ e. omega (arith, e)) (λ e. omega (arith, e)),
+      other 18 (λ e. omega (arith, e)) (λ e. omega (arith, e)), large, size_kept (is_large (attributes_at r)), attributes) refl
+
   -- the header sum of 24 + n bytes is the same: n is 0 for a short header, and 8 for a large one
   around_sum : (n : ℕ) → header_sum_of (take (24 + n) (unmarked 0 r)) ≡ header_sum_of (take (24 + n) r)
   around_sum n =
@@ -168,7 +177,7 @@ module _ (r : List ℕ) (long : 24 ≤ length r) (fixed : is_fixed (attributes_a
   payload_kept : (t : Bool) (n : ℕ) → take n (drop (file_header_len t) (unmarked 0 r)) ≡ take n (drop (file_header_len t) r)
   payload_kept t n = ap (take n) (behind_mark (file_header_len t) r (omega (arith, header_least t)))
 
-  payload_same : payload_at (unmarked 0 r) ≡ payload_at r
+  pub payload_same : payload_at (unmarked 0 r) ≡ payload_at r
   payload_same = grind (arith, common_steps, size_same, large, payload_kept)
 
   pub right_still : (s : FileSystem) → IsHeaderRight s r → IsHeaderRight s (unmarked 0 r)

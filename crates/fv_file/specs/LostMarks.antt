@@ -1,17 +1,18 @@
 -- A body and its copy without the marks of fixed files, cell by cell; and two bodies that differ in such marks only (PI
 -- specification, volume 3, section 3.2.3.1, FFS_ATTRIB_FIXED).
-use Rattle.std.specs.Prelude.{◌≡◌, ◌≢◌, ℕ, ◌+◌, ◌⊎◌, ◌&&◌, not, Bool, true, if◌then◌else◌, List, [], ◌∷◌, ◌++◌, length}
+use Rattle.std.specs.Prelude.{◌≡◌, ◌≢◌, ℕ, ◌+◌, ◌-◌, ◌%◌, ◌⊎◌, ◌&&◌, not, Bool, true, if◌then◌else◌, List, [], ◌∷◌, ◌++◌, length}
 use Rattle.fv_base.specs.declared.fault.Fault.{Fault}
 use Rattle.fv_base.specs.declared.flash.FileSystem.{FileSystem}
 use Rattle.fv_base.specs.declared.flash.Polarity.{Polarity}
 use Rattle.fv_base.specs.declared.fault.FaultKind.TheVariants as kinds
 use Rattle.fv_file.specs.CellForms.{cell_len}
 use Rattle.fv_file.specs.Cells.{CellForm, IsCell, Tiles, offset_of, is_free}
-use Rattle.fv_file.specs.FileAttributes.{is_fixed}
+use Rattle.fv_file.specs.FileAttributes.{attribute_bits, attributes_by, is_fixed}
 use Rattle.fv_file.specs.FileChecks.{IsFirstCellFault, is_valid_state, skips_data}
 use Rattle.fv_file.specs.FileHeaders.{attributes_at, state_at}
 use Rattle.fv_file.specs.States.{state_of}
 use Rattle.fv_file.specs.Unmarking.{unmarked, Unmarks}
+use Rattle.fv_file.specs.declared.head.FileHead.{FileHead}
 
 -- the header at the start of x is the header of a valid file that is not a pad and is marked as fixed
 abbrev pub is_marked : Polarity → List ℕ → Bool
@@ -21,6 +22,20 @@ is_marked polarity x = not (skips_data (is_valid_state (state_of polarity (state
 -- cleared, and 4 is added to its header checksum, modulo 256 (`unmarked`). All other bytes stay the same
 abbrev pub without_mark : Polarity → List ℕ → List ℕ
 without_mark polarity x = if is_marked polarity x then unmarked 0 x else x
+
+-- the fields of a fixed file's header without its mark: bit 0x04 of the attributes is cleared, and 4 is added to the header
+-- checksum, modulo 256
+abbrev pub but_for_mark : FileHead → FileHead
+but_for_mark h = record {
+  name = h.name;
+  header_sum = (h.header_sum + 4) % 256;
+  file_sum = h.file_sum;
+  kind = h.kind;
+  attributes = attributes_by (attribute_bits h.attributes - 4);
+  size = h.size;
+  header_len = h.header_len;
+  state = h.state;
+}
 
 -- cell by cell, o is the body b without the marks of valid fixed files. Both consist of parts, one after the other. Each
 -- part of o is the same part of b without its mark, and is one of these cells, of which the first is at the offset `at`;

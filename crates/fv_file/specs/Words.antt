@@ -20,5 +20,5 @@ pub use Rattle.fv_file.specs.FileChecks.{verify_checks, NoneFree, CellFault, IsF
 pub use Rattle.fv_file.specs.CellForms.{cell_form, cell_len, LengthsAgree, CellsWithin}
 pub use Rattle.fv_file.specs.CellWalks.{CellsLeft, left_at, TileLeft, Walked, IsNextFault}
 pub use Rattle.fv_file.specs.Unmarking.{unmarked, Unmarks}
-pub use Rattle.fv_file.specs.LostMarks.{is_marked, without_mark, TilesUnmarked, DiffersInMark}
+pub use Rattle.fv_file.specs.LostMarks.{is_marked, without_mark, but_for_mark, TilesUnmarked, DiffersInMark}
 pub use Rattle.fv_file.specs.LostMarks.{DifferInMarks, Unmarkable, UnmarkingStops}

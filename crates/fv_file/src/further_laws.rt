@@ -1,17 +1,20 @@
 //! Laws over the definitions of this crate. None of these functions does anything: their contracts
 //! are the laws.
 
-ghost use Rattle.std.specs.Prelude.{◌≡◌, ◌⊎◌, ◌%◌, ℕ, List, length};
+ghost use Rattle.std.specs.Prelude.{◌≡◌, ◌≤◌, ◌⊎◌, ◌%◌, ℕ, List, length, true};
 ghost use Rattle.fv_base.specs.Words.{IsBytes, IsFirstFault};
 ghost use Rattle.fv_base.specs.declared.fault.Fault.{Fault};
 ghost use Rattle.fv_base.specs.declared.flash.FileSystem.{FileSystem};
 ghost use Rattle.fv_base.specs.declared.flash.Polarity.{Polarity};
 ghost use Rattle.fv_file.specs.Cells.{CellForm, Tiles};
-ghost use Rattle.fv_file.specs.FileChecks.{IsFirstCellFault, verify_checks};
+ghost use Rattle.fv_file.specs.FileAttributes.{is_fixed};
+ghost use Rattle.fv_file.specs.FileChecks.{IsFirstCellFault, payload_at, verify_checks};
+ghost use Rattle.fv_file.specs.FileHeaders.{attributes_at, head_in};
 ghost use Rattle.fv_file.specs.HeaderReads.{BeginsFile};
-ghost use Rattle.fv_file.specs.LostMarks.{DifferInMarks, TilesUnmarked, Unmarkable, UnmarkingStops};
-ghost use Rattle.fv_file.specs.Unmarking.{Unmarks};
+ghost use Rattle.fv_file.specs.LostMarks.{but_for_mark, DifferInMarks, TilesUnmarked, Unmarkable, UnmarkingStops};
+ghost use Rattle.fv_file.specs.Unmarking.{unmarked, Unmarks};
 ghost use Rattle.fv_file.specs.declared.head.FileHead.{FileHead};
+ghost use Rattle.fv_file.specs.declared.state.FileState.{FileState};
 
 /// Cells tile a body whose length is a multiple of 8, or the body has a first fault, and never both.
 /// (PI specification, volume 3, sections 3.2.2 and 3.2.3.)
@@ -63,4 +66,13 @@ pub fn marks_do_not_matter()
         → length a % 8 ≡ 0 → length b % 8 ≡ 0 → IsBytes a → IsBytes b
         → Unmarks s p first places a o → Unmarks s p first others b o → Tiles s p first cells o
         → DifferInMarks p cells a b }
+{}
+
+/// A file that has lost its mark has the same fields and data as before, except for bit 0x04 of its
+/// attributes and its header checksum. (PI specification, volume 3, section 3.2.3.1,
+/// `FFS_ATTRIB_FIXED`.)
+pub fn marked_files_keep_fields()
+    ensures fields { (state : FileState) (x : List ℕ) → 24 ≤ length x → is_fixed (attributes_at x) ≡ true
+        → head_in state (unmarked 0 x) ≡ but_for_mark (head_in state x) }
+    ensures data { (x : List ℕ) → 24 ≤ length x → is_fixed (attributes_at x) ≡ true → payload_at (unmarked 0 x) ≡ payload_at x }
 {}
