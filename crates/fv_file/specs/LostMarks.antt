@@ -23,8 +23,8 @@ is_marked polarity x = not (skips_data (is_valid_state (state_of polarity (state
 abbrev pub without_mark : Polarity → List ℕ → List ℕ
 without_mark polarity x = if is_marked polarity x then unmarked 0 x else x
 
--- the fields of a fixed file's header without its mark: bit 0x04 of the attributes is cleared, and 4 is added to the header
--- checksum, modulo 256
+-- the fields of a fixed file's header without its mark: bit 0x04 of the attributes is cleared, and 4 is added to the
+-- header checksum, modulo 256
 abbrev pub but_for_mark : FileHead → FileHead
 but_for_mark h = record {
   name = h.name;
@@ -38,8 +38,8 @@ but_for_mark h = record {
 }
 
 -- cell by cell, o is the body b without the marks of valid fixed files. Both consist of parts, one after the other. Each
--- part of o is the same part of b without its mark, and is one of these cells, of which the first is at the offset `at`;
--- only the last may be a free cell
+-- part of o is the same part of b without its mark, and is one of these cells, of which the first is at the offset `at`.
+-- Only the last may be a free cell
 abbrev pub TilesUnmarked : FileSystem → Polarity → ℕ → List CellForm → List ℕ → List ℕ → Type 0
 TilesUnmarked system polarity at [] b o = (b ≡ []) × (o ≡ [])
 TilesUnmarked system polarity at (c ∷ cs) b o =
