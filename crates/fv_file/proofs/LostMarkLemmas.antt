@@ -93,7 +93,7 @@ pub marked_long : (p : Polarity) (r : List ℕ) → is_marked p r ≡ true → 2
 marked_long p r marked = elim (cases_lt 23 (length r)) [
   | inl long ↦ long
   | inr short ↦ absurd (up_is_not_down (is_marked p r) marked
-    (rw (erased_state p (slice_index r 23) (inr (get_or_past r 23 0 short))) refl))
+      (rw (erased_state p (slice_index r 23) (inr (get_or_past r 23 0 short))) refl))
 ]
 
 -- ---- 2. one more part

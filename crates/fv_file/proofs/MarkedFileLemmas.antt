@@ -160,8 +160,15 @@ module _ (r : List ℕ) (long : 24 ≤ length r) (fixed : is_fixed (attributes_a
   name_same = take-set-le 16 (slice_set r 16 value) 19 (slice_index r 19 - 4) (omega arith) ∙ take-set-le 16 r 16 value (omega arith)
 
   pub fields_kept : (state : FileState) → head_in state (unmarked 0 r) ≡ but_for_mark (head_in state r)
-  fields_kept state = rw (name_same, header_sum, other 17 (λ e. omega (arith, e)) (λ e. omega (arith, e)),
-      other 18 (λ e. omega (arith, e)) (λ e. omega (arith, e)), large, size_kept (is_large (attributes_at r)), attributes) refl
+  fields_kept state = rw (
+    name_same,
+    header_sum,
+    other 17 (λ e. omega (arith, e)) (λ e. omega (arith, e)),
+    other 18 (λ e. omega (arith, e)) (λ e. omega (arith, e)),
+    large,
+    size_kept (is_large (attributes_at r)),
+    attributes,
+  ) refl
 
   -- the header sum of 24 + n bytes is the same: n is 0 for a short header, and 8 for a large one
   around_sum : (n : ℕ) → header_sum_of (take (24 + n) (unmarked 0 r)) ≡ header_sum_of (take (24 + n) r)
