@@ -1,6 +1,6 @@
-use Rattle.std.proofs.Common.{◌≡◌, ◌<◌, ◌+◌, ◌*◌, ◌/◌, ◌%◌, ◌^◌, ℕ, zero, suc, List, Bool, true, false, ◌&&◌, nat_eq, slice_index, if◌then◌else◌, refl, ap, sym, ◌∙◌, inl, inr, arith, bit_xor}
+use Rattle.std.proofs.Common.{◌≡◌, ◌<◌, ◌+◌, ◌*◌, ◌/◌, ◌%◌, ◌^◌, ℕ, zero, suc, List, Bool, true, false, nat_eq, slice_index, if◌then◌else◌, refl, ap, sym, ◌∙◌, inl, inr, arith, bit_xor}
 use Rattle.std.proofs.lemmas.Bool.{and_parts, cases_lt, eqb-true}
-use Rattle.std.proofs.lemmas.Nat.{xor_mod, xor_shr, xor_block, xor_comm, shl-shr, div-add-mod', mod_below}
+use Rattle.std.proofs.lemmas.Nat.{xor_mod, xor_shr, xor_block, xor_comm, shl-shr}
 use Rattle.std.specs.Int.Bits.{xor_assoc, xor_zero_l, xor_zero_r}
 use Rattle.std.proofs.Math.Nat.{pow-suc, mul_assoc}
 use Rattle.fv_crc32.specs.Words.{polynomial, after_bit, after_bits}

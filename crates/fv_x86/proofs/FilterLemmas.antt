@@ -1,6 +1,6 @@
-use Rattle.std.proofs.Common.{◌≡◌, ◌<◌, ◌≤◌, ◌+◌, ◌-◌, ◌*◌, ◌/◌, ◌%◌, ◌^◌, ℕ, zero, suc, List, [], ◌∷◌, ◌++◌, Bool, true, false, ◌&&◌, not, nat_eq, nat_lt, length, take, drop, get_or, if◌then◌else◌, refl, ap, sym, ◌∙◌, inl, inr, arith}
-use Rattle.std.proofs.lemmas.Bool.{and_parts, cases_lt, eqb-true, ltb-true, le-ltb}
-use Rattle.std.proofs.lemmas.List.{append_assoc, at_drop_more, drop-drop, drop_at, length-append, length-take-le, take-append-drop, take_at}
+use Rattle.std.proofs.Common.{◌≡◌, ◌<◌, ◌≤◌, ◌+◌, ◌/◌, ℕ, suc, List, [], ◌∷◌, ◌++◌, true, false, ◌&&◌, nat_lt, length, take, drop, get_or, if◌then◌else◌, refl, ap, sym, ◌∙◌, arith}
+use Rattle.std.proofs.lemmas.Bool.{and_parts, ltb-true, le-ltb}
+use Rattle.std.proofs.lemmas.List.{append_assoc, at_drop_more, drop-drop, drop_at, length-append, length-take-le, take_at}
 use Rattle.std.proofs.Math.Seq.{take-suc}
 use Rattle.fv_x86.specs.Words.{is_opcode, is_sign, is_certain, is_converted, passed, filtered, filtered_bytes}
 
