@@ -1,9 +1,9 @@
--- The CRC-32 of the UEFI specification (2.10, section 7.5, CalculateCrc32): the remainder of a division of polynomials over
--- the bits, in which the lowest bit of a byte comes first. A register is a number below 2^32.
+-- The CRC-32 of the UEFI specification (2.10, section 7.5, CalculateCrc32): the remainder of a division of polynomials
+-- over the bits, in which the lowest bit of a byte comes first. A register is a number below 2^32.
 use Rattle.std.specs.Prelude.{ℕ, zero, suc, ◌-◌, ◌/◌, ◌%◌, ◌^◌, nat_eq, if◌then◌else◌, List, [], ◌∷◌, bit_xor}
 
--- the polynomial x^32 + x^26 + x^23 + x^22 + x^16 + x^12 + x^11 + x^10 + x^8 + x^7 + x^5 + x^4 + x^2 + x + 1, whose coefficient
--- of x^n is the bit 31 - n. The coefficient of x^32 is left out.
+-- the polynomial x^32 + x^26 + x^23 + x^22 + x^16 + x^12 + x^11 + x^10 + x^8 + x^7 + x^5 + x^4 + x^2 + x + 1, whose
+-- coefficient of x^n is the bit 31 - n. The coefficient of x^32 is left out.
 abbrev pub polynomial : ℕ
 polynomial = 0xEDB88320
 
@@ -25,6 +25,6 @@ abbrev pub after_bytes : ℕ → List ℕ → ℕ
 after_bytes register [] = register
 after_bytes register (byte ∷ bytes) = after_bytes (after_byte register byte) bytes
 
--- The checksum of bytes: all bits of the register are turned before the first byte and after the last.
+-- the checksum of bytes: all bits of the register are 1 before the first byte, and are turned after the last
 abbrev pub crc32 : List ℕ → ℕ
 crc32 bytes = 2 ^ 32 - 1 - after_bytes (2 ^ 32 - 1) bytes

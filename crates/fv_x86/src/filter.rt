@@ -1,7 +1,8 @@
 //! The filter over all bytes.
 
 ghost use Rattle.std.specs.Prelude.{◌≡◌, ◌+◌, ◌-◌, ◌*◌, ◌/◌, ◌<◌, ◌≤◌, ◌^◌, ◌++◌, ℕ, length, take, drop, slice_index};
-ghost use Rattle.fv_x86.specs.Filter.{filtered_bytes, is_converted, passed, unfiltered};
+ghost use Rattle.fv_x86.specs.Instruction.{filtered_bytes, is_converted, passed};
+ghost use Rattle.fv_x86.specs.Filter.{unfiltered};
 
 use crate::instruction::{distance, is_certain, is_opcode, is_sign};
 

@@ -1,7 +1,7 @@
 //! One instruction: whether it is converted, and its distance.
 
 ghost use Rattle.std.specs.Prelude.{◌≡◌, ◌+◌, ◌-◌, ◌*◌, ◌/◌, ◌<◌, ◌≤◌, ◌^◌, ℕ};
-ghost use Rattle.fv_x86.specs.Filter.{distance, is_certain, is_opcode, is_sign, signed, weight};
+ghost use Rattle.fv_x86.specs.Instruction.{distance, is_certain, is_opcode, is_sign, signed, weight};
 
 /// Returns whether a byte is the opcode of a call or a jump.
 #[inline]
