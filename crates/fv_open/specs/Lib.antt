@@ -1,0 +1,5 @@
+-- The definitions, in reading order.
+pub mod OpenFaults
+pub mod Ways
+pub mod SectionStreams
+pub mod Headers
