@@ -3,3 +3,5 @@ pub mod OpenFaults
 pub mod Ways
 pub mod SectionStreams
 pub mod Headers
+pub mod Contents
+pub mod Views

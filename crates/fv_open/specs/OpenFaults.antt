@@ -16,7 +16,7 @@ open_out_of_memory = open_fault kinds.OutOfMemory 0
 abbrev pub open_fault_number : OpenFaultKind → ℕ
 open_fault_number kinds.Short = 1
 open_fault_number kinds.UnknownWay = 2
-open_fault_number kinds.Damaged = 3
+open_fault_number (kinds.Damaged _) = 3
 open_fault_number kinds.Sum = 4
 open_fault_number kinds.TooLong = 5
 open_fault_number kinds.OutOfMemory = 6

@@ -3,6 +3,7 @@
 ghost use Rattle.std.specs.Prelude.{◌≡◌};
 ghost use Rattle.fv_open.specs.OpenFaults.{open_fault, open_fault_number};
 
+use fv_packed::PackedFaultKind;
 use thiserror::Error;
 
 /// The reason why a section was not opened. The comment of each variant gives the condition and then
@@ -19,9 +20,10 @@ pub enum OpenFaultKind {
     /// offset points to this field.
     #[error("the way to open the section is not known")]
     UnknownWay,
-    /// The packed data are damaged. The offset points to the next byte to be read.
-    #[error("the packed data are damaged")]
-    Damaged,
+    /// The packed data are damaged, for the reason that the decoder gives. The offset points to the
+    /// byte at which the decoder stopped.
+    #[error("the packed data are damaged: {0}")]
+    Damaged(PackedFaultKind),
     /// The CRC32 of the contents is not the one that the section stores. The offset points to the
     /// stored one.
     #[error("the CRC32 of the contents is wrong")]
@@ -43,7 +45,7 @@ impl OpenFaultKind {
         match self {
             OpenFaultKind::Short => 1,
             OpenFaultKind::UnknownWay => 2,
-            OpenFaultKind::Damaged => 3,
+            OpenFaultKind::Damaged(_) => 3,
             OpenFaultKind::Sum => 4,
             OpenFaultKind::TooLong => 5,
             OpenFaultKind::OutOfMemory => 6,

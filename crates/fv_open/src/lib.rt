@@ -5,9 +5,14 @@
 mod encapsulation;
 mod fault;
 mod offsets;
+mod opening;
+mod opened;
 mod sections;
+mod unpack;
 mod way;
 
 pub use encapsulation::{Encapsulation, way_of};
 pub use fault::{OpenFault, OpenFaultKind};
+pub use opening::open;
+pub use opened::Opened;
 pub use way::Way;
