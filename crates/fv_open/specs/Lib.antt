@@ -1,0 +1,7 @@
+-- The definitions, in reading order.
+pub mod OpenFaults
+pub mod Ways
+pub mod SectionStreams
+pub mod Headers
+pub mod Contents
+pub mod Views
