@@ -3,10 +3,13 @@
 --    (`truth_of_tree`), and BEFORE and AFTER have none (`none_of_order`).
 -- 2. A loop runs the ops one by one (`run_step`, `run_none`, `run_end`).
 -- 3. Ops build their tree again (`build_tree`), so they are the ops of at most one tree (`one_tree`).
-use Rattle.std.proofs.Common.{◌≡◌, ◌≤◌, ◌+◌, ℕ, [], ◌∷◌, ◌++◌, length, drop, List, refl, sym, ap, ◌∙◌, Bool, append_assoc, arith, Option, None, Some}
+-- 4. An expression that pushes a value is a tree (`pushing_tree`).
+use Rattle.std.proofs.Common.{◌≡◌, ◌≤◌, ◌⊎◌, inl, inr, ◌+◌, ℕ, [], ◌∷◌, ◌++◌, length, drop, List, refl, sym, ap, ◌∙◌, Bool, true, false, arith}
+use Rattle.std.proofs.Common.{append_assoc, Option, None, Some}
+use Rattle.std.specs.List.{list_any}
 use Rattle.fv_base.proofs.Laws.{Result, Ok, Err, IfOk, common_steps, drop_all}
 use Rattle.fv_base.specs.declared.guid.Guid.{Guid}
-use Rattle.fv_depex.specs.inner.Ops.{evaluate_ops, evaluate_op, top}
+use Rattle.fv_depex.specs.inner.Ops.{evaluate_ops, evaluate_op, pushes, top}
 use Rattle.fv_depex.specs.Words.{Expression, always, never, installed, negated, both, either, IsTree, IsOrder, postfix, truth}
 use Rattle.fv_depex.specs.declared.fault.DepexFault.{DepexFault}
 use Rattle.fv_depex.specs.declared.op.Op.{Op}
@@ -98,3 +101,14 @@ pub one_tree : (phase : Phase) (all : List Op) (t u : Expression) → IsTree pha
 one_tree phase all t u p q = same t u (sym (built phase all t p) ∙ built phase all u q) where
   same : (t u : Expression) → t ∷ [] ≡ u ∷ [] → t ≡ u
   same t u e = cc
+
+-- ---- ops that push a value
+
+-- BEFORE and AFTER push no value, so ops that push a value are the ops of a tree
+pub pushing_tree : (phase : Phase) (all : List Op) → list_any pushes all ≡ true → ((t : Expression) × IsTree phase all t) ⊎ IsOrder phase all
+    → (t : Expression) × IsTree phase all t
+pushing_tree phase all some (inl tree) = tree
+pushing_tree phase all some (inr order) = let none : list_any pushes all ≡ false = silent order.joined in cc where
+  silent : (all ≡ ops.Before order.guid ∷ ops.End ∷ []) ⊎ (all ≡ ops.After order.guid ∷ ops.End ∷ []) → list_any pushes all ≡ false
+  silent (inl e) = ap (list_any pushes) e
+  silent (inr e) = ap (list_any pushes) e

@@ -2,8 +2,9 @@
 
 ghost use Rattle.std.specs.Prelude.{◌≡◌, if◌then◌else◌, true, None, Some, [], ◌∷◌, ◌<◌, length, reverse};
 ghost use Rattle.std.specs.Prelude.{IfSome, IfNone, IfOk, IfErr};
+ghost use Rattle.std.specs.List.{list_any};
 ghost use Rattle.fv_depex.specs.OpChecks.{depex_out_of_memory};
-ghost use Rattle.fv_depex.specs.inner.Ops.{evaluate_op, evaluate_ops, top};
+ghost use Rattle.fv_depex.specs.inner.Ops.{evaluate_op, evaluate_ops, pushes, top};
 ghost use Rattle.fv_depex.specs.Expressions.{Expression, IsTree, IsOrder, is_among, truth};
 
 use crate::depex::Depex;
@@ -49,8 +50,9 @@ fn push(stack: &mut Vec<bool>, value: bool) -> Result<bool, AllocError>
 // Evaluates one op on the stack. Returns false if the stack does not hold the values that the op
 // takes, or if the op is BEFORE or AFTER.
 fn evaluate_op(stack: &mut Vec<bool>, op: &Op, installed: &[Guid]) -> Result<bool, AllocError>
-    ensures { IfOk result (λ done. evaluate_op installed.now (reverse stack.old.items) op.now
+    ensures done { IfOk result (λ done. evaluate_op installed.now (reverse stack.old.items) op.now
         ≡ (if done then Some (reverse stack.new.items) else None)) }
+    ensures memory { IfErr result (λ _. pushes op.now ≡ true) }
 {
     match op {
         Op::Push(guid) => push(stack, is_among(guid, installed)),
@@ -78,6 +80,7 @@ fn evaluate_op(stack: &mut Vec<bool>, op: &Op, installed: &[Guid]) -> Result<boo
 fn evaluate_ops(alloc: Global, ops: &[Op], installed: &[Guid]) -> Result<Option<bool>, DepexFault>
     ensures value { IfOk result (λ v. v ≡ evaluate_ops installed.now ops.now []) }
     ensures err { IfErr result (λ f. f ≡ depex_out_of_memory) }
+    ensures memory { IfErr result (λ _. list_any pushes ops.now ≡ true) }
 {
     let mut stack = Vec::new(alloc);
     for op in ops {
@@ -96,7 +99,7 @@ fn evaluate_ops(alloc: Global, ops: &[Op], installed: &[Guid]) -> Result<Option<
 ///
 /// # Errors
 ///
-/// OutOfMemory.
+/// OutOfMemory, only if a tree has these ops (`IsTree`), and so never for BEFORE and AFTER.
 pub fn evaluate(
     alloc: Global,
     depex: &Depex,
@@ -113,8 +116,9 @@ pub fn evaluate(
     ensures tree { (t u : Expression) → IsTree depex.now.phase depex.now.ops t → IsTree depex.now.phase depex.now.ops u
         → t ≡ u }
 
-    // The only error is OutOfMemory.
+    // The only error is OutOfMemory, and only if a tree has these ops.
     ensures err { IfErr result (λ f. f ≡ depex_out_of_memory) }
+    ensures memory { IfErr result (λ _. (t : Expression) × IsTree depex.now.phase depex.now.ops t) }
 {
     evaluate_ops(alloc, depex.ops(), installed)
 }

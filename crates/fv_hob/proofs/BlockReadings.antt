@@ -2,7 +2,7 @@
 use Rattle.std.proofs.Common.{◌≡◌, ◌+◌, ◌*◌, ◌^◌, ◌++◌, ◌==◌, List, ℕ, Some, length, refl, lit<, lit≤}
 use Rattle.fv_base.proofs.Laws.{AllByRecursion, IsBytes, bytes_append, bytes_le_bytes, bytes_replicate, first_is, le_bytes, replicate}
 use Rattle.fv_base.specs.inner.Verdicts.{first_fault}
-use Rattle.fv_hob.specs.Words.{BeginWithTable, HobForm, IsBlock, IsFirstHobFault, IsHob, IsNotEndHob, JoinsHobs, hob_checks}
+use Rattle.fv_hob.specs.Words.{BeginWithTable, HobForm, IsFirstHobFault, IsHob, IsNotEndHob, JoinsHobs, hob_checks}
 use Rattle.fv_hob.specs.Words.{end_block, end_bytes, hob_fault_at, table, table_bytes}
 use Rattle.fv_hob.specs.declared.fault.HobFaultKind.{HobFaultKind}
 

@@ -1,5 +1,7 @@
--- After one more field, block or span, the written bytes are the fields so far and the new ones.
-use Rattle.std.proofs.Common.{◌≡◌, ◌<◌, ℕ, ◌+◌, [], ◌∷◌, ◌++◌, List, length, take, get_or, refl, sym, ap, ◌∙◌, append_assoc, append-nil, arith}
+-- After one more field, block or span, the written bytes are the fields so far and the new ones. A list with an FV or
+-- FV2 block has a span (`has_span`).
+use Rattle.std.proofs.Common.{◌≡◌, ◌<◌, ℕ, ◌+◌, zero, suc, [], ◌∷◌, ◌++◌, List, length, take, get_or, refl, sym, ap, ◌∙◌, append_assoc}
+use Rattle.std.proofs.Common.{append-nil, arith}
 use Rattle.fv_base.proofs.Laws.{Option, None, Some, common_steps, concat, cons_option, map-append, take_more}
 use Rattle.std.proofs.lemmas.List.Folds.{concat-append}
 use Rattle.fv_hob.specs.Words.{HobForm, hob_spelled, list_spelled, span_of, spans_of}
@@ -45,3 +47,16 @@ span_some o s old new e p = p ∙ sym (ap (λ (x : Option Span). old ++ cons_opt
 
 pub span_none : (o : Option Span) (old new : List Span) → o ≡ None → new ≡ old → new ≡ old ++ cons_option o []
 span_none o old new e p = p ∙ sym (append-nil old) ∙ sym (ap (λ (x : Option Span). old ++ cons_option x []) e)
+
+-- a list with an FV or FV2 block has a span
+pub has_span : (hs : List HobForm) (i : ℕ) (h : HobForm) (s : Span) → i < length hs → h ≡ get_or hs i h → span_of h.kind ≡ Some s
+    → 0 < length (spans_of hs)
+has_span [] i h s within is e = absurd (omega (arith, within))
+has_span (g ∷ gs) zero h s within is e = first (span_of g.kind) (sym (ap (λ (k : HobForm). span_of k.kind) is) ∙ e) where
+  first : (o : Option Span) → o ≡ Some s → 0 < length (cons_option o (spans_of gs))
+  first None e = cc
+  first (Some t) e = omega arith
+has_span (g ∷ gs) (suc i) h s within is e = more (span_of g.kind) (has_span gs i h s (omega (arith, within)) is e) where
+  more : (o : Option Span) → 0 < length (spans_of gs) → 0 < length (cons_option o (spans_of gs))
+  more None some = some
+  more (Some t) some = omega arith

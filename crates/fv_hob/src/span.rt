@@ -1,6 +1,6 @@
 //! The volumes that the FV and FV2 blocks of a hand-off list describe.
 
-ghost use Rattle.std.specs.Prelude.{◌≡◌, IfOk, IfErr};
+ghost use Rattle.std.specs.Prelude.{◌≡◌, ◌<◌, length, IfOk, IfErr};
 ghost use Rattle.fv_hob.specs.HobChecks.{hob_out_of_memory};
 ghost use Rattle.fv_hob.specs.Lists.{span_of, spans_of};
 
@@ -68,13 +68,14 @@ impl Hob {
 ///
 /// # Errors
 ///
-/// OutOfMemory.
+/// OutOfMemory, only if the list has an FV or FV2 block.
 pub fn volume_hobs(alloc: Global, hobs: &HobList) -> Result<Spans, HobFault>
     // The result has the base and the length in each FV or FV2 block, in order.
     ensures spans { IfOk result (λ s. s ≡ spans_of hobs.now) }
 
-    // The only error is OutOfMemory.
+    // The only error is OutOfMemory, and only if there is an FV or FV2 block.
     ensures err { IfErr result (λ f. f ≡ hob_out_of_memory) }
+    ensures some { IfErr result (λ _. 0 < length (spans_of hobs.now)) }
 {
     let mut list = Vec::new(alloc);
     for hob in hobs.as_slice() {

@@ -46,13 +46,14 @@ impl NameOrder {
     ///
     /// # Errors
     ///
-    /// OutOfMemory at 0.
+    /// OutOfMemory at 0, only if the index has an entry.
     pub fn of(alloc: Global, index: &NameIndex) -> Result<NameOrder, Fault>
         // The numbers are the numbers of the index's entries, in the same order.
         ensures found { IfOk result (λ order. numbers_of order ≡ numbers_in (entries_of index.now)) }
 
-        // The only error is OutOfMemory.
+        // The only error is OutOfMemory, and only if the index has an entry.
         ensures err { IfErr result (λ f. f ≡ out_of_memory) }
+        ensures some { IfErr result (λ _. 0 < length (entries_of index.now)) }
     {
         let mut numbers = Vec::with_capacity(alloc, index.len())?;
         for place in 0..index.len() {

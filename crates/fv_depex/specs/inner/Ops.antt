@@ -40,6 +40,14 @@ evaluate_op set s ops.End = Some s
 evaluate_op set s ops.Sor = Some s
 evaluate_op set s _ = None
 
+-- whether the op pushes a value. END leaves the stack as it is, and so does SOR. BEFORE and AFTER have no value
+abbrev pub pushes : Op → Bool
+pushes (ops.Before g) = false
+pushes (ops.After g) = false
+pushes ops.End = false
+pushes ops.Sor = false
+pushes _ = true
+
 -- the value on top of the stack, if there is one
 abbrev pub top : List Bool → Option Bool
 top [] = None
