@@ -4,14 +4,14 @@
 use Rattle.std.proofs.Common.{◌≡◌, ◌≤◌, ◌∙◌, ◌+◌, ℕ, zero, suc, List, [], ◌∷◌, ◌++◌, length, refl, sym, ap, subst, arith, append_assoc, append-nil, zero-add}
 use Rattle.std.proofs.Math.Nat.{add-zero}
 use Rattle.std.proofs.lemmas.List.{map-id}
-use Rattle.fv_base.proofs.Laws.{length-append, map-append}
+use Rattle.fv_base.proofs.Laws.{length-append, map, map-append}
 use Rattle.fv_tree.specs.Words.{Meaning, Volume, FileMeanings, NoFiles, MoreFiles, FileMeaning, File, ContentMeaning, Plain, Sectioned}
 use Rattle.fv_tree.specs.Words.{SectionMeanings, NoSections, MoreSections, SectionMeaning, Section, BodyMeaning, Leaf, Group, Nested}
 use Rattle.fv_tree.specs.Words.{Inside, deeper, volumes_in, volumes_in_files, volumes_in_file, volumes_in_content, volumes_in_sections}
-use Rattle.fv_tree.specs.Words.{volumes_in_section, volumes_in_body, body_of, content_of}
+use Rattle.fv_tree.specs.Words.{volumes_in_section, volumes_in_body, body_of, content_of, sections_from}
 use Rattle.fv_rows.specs.Words.{FileNode, SectionNode, TreeRow, rows_of_volume, rows_of_files, rows_of_file, rows_in_content, rows_of_sections, rows_of_section}
 use Rattle.fv_rows.specs.Words.{rows_in_body, tree_rows, rows_inside, NodeMeaning, VolumeNode, nesting_inside, parts_in, rows_of_nodes}
-use Rattle.fv_rows.proofs.RowWalkLaws.{inside_rows, volume_rows}
+use Rattle.fv_rows.proofs.RowWalkLaws.{inside_rows, stream_rows, volume_rows}
 use Rattle.fv_rows.specs.inner.RowVolumes.{Followed, deeper_by, volumes_of}
 
 -- ---- the rows that follow a row
@@ -35,6 +35,12 @@ pub rows_followed : (m : Meaning) → Followed (tree_rows m)
 rows_followed m =
     let rows : List TreeRow = rows_of_nodes 0 0 0 (VolumeNode m ∷ []) in
     subst Followed (append-nil rows ∙ sym (volume_rows 0 0 m)) (followed_nodes (length rows) 0 0 0 (VolumeNode m ∷ []) [] (omega arith) tt)
+
+-- so is each row of a stream
+pub stream_followed : (ss : List SectionMeaning) → Followed (rows_of_sections 0 0 0 (sections_from ss))
+stream_followed ss =
+    let rows : List TreeRow = rows_of_nodes 0 0 0 (map SectionNode ss) in
+    subst Followed (append-nil rows ∙ sym (stream_rows ss)) (followed_nodes (length rows) 0 0 0 (map SectionNode ss) [] (omega arith) tt)
 
 -- ---- the volumes among the rows
 
@@ -93,3 +99,7 @@ file_inside (File name kind attributes content) = simp (append-nil, add-zero, ma
 
 pub section_inside : (s : SectionMeaning) → volumes_of (rows_inside 0 0 (SectionNode s)) ≡ volumes_in_body (body_of s)
 section_inside (Section kind extended body) = simp (append-nil, add-zero, map-id) at (body_volumes 0 0 body [])
+
+-- the volumes among all rows of a stream are the volumes in its sections
+pub stream_volumes : (ss : SectionMeanings) → volumes_of (rows_of_sections 0 0 0 ss) ≡ volumes_in_sections ss
+stream_volumes ss = simp (append-nil, add-zero, map-id) at (content_volumes 0 0 (Sectioned ss 0) [])

@@ -9,7 +9,9 @@ use Rattle.std.proofs.Common.{◌≡◌, ◌≤◌, ◌<◌, ◌+◌, ◌^◌, �
 use Rattle.fv_base.proofs.Laws.{arith, length-append, map, AllByRecursion}
 use Rattle.fv_tree.specs.Words.{Meaning, Volume, FileMeanings, NoFiles, MoreFiles, File}
 use Rattle.fv_tree.specs.Words.{Sectioned, SectionMeanings, NoSections, MoreSections, SectionMeaning, Section, Group, Nested, files_list}
-use Rattle.fv_tree.specs.Words.{sections_from, sections_list}
+use Rattle.fv_base.specs.Words.{depth_limit}
+use Rattle.fv_section.specs.Words.{FrameForm}
+use Rattle.fv_tree.specs.Words.{AcceptedStream, MeansSection, Pairwise, sections_from, sections_list}
 use Rattle.fv_tree.proofs.Laws.{nests_files, nests_content, nests_sections, nests_body, nests_group, nests_nested}
 use Rattle.fv_rows.specs.Words.{NodeMeaning, VolumeNode, FileNode, SectionNode, rows_of_files, rows_of_sections}
 use Rattle.fv_rows.specs.Words.{rows_of_volume, parts_in, nodes_of, nesting_inside, rows_inside, rows_of_nodes, rows_left_in, PartNestsAt}
@@ -33,6 +35,10 @@ sections_rows : (depth nesting number : ℕ) (ss : SectionMeanings)
     → rows_of_sections depth nesting number ss ≡ rows_of_nodes depth nesting number (map SectionNode (sections_list ss))
 sections_rows depth nesting number NoSections = refl
 sections_rows depth nesting number (MoreSections (Section kind extended body) ss) = simp (sections_rows depth nesting (number + 1) ss)
+
+-- the rows of a stream are the rows of its sections
+pub stream_rows : (ss : List SectionMeaning) → rows_of_sections 0 0 0 (sections_from ss) ≡ rows_of_nodes 0 0 0 (map SectionNode ss)
+stream_rows ss = rw sections_list_back at (sections_rows 0 0 0 (sections_from ss))
 
 pub volume_rows : (depth nesting : ℕ) (v : Meaning) → rows_of_volume depth nesting v ≡ rows_of_nodes depth nesting 0 (VolumeNode v ∷ [])
 volume_rows depth nesting (Volume h files) = simp append-nil
@@ -69,6 +75,16 @@ nest_in depth d node low nests = tt
 
 pub inside_nests : (depth : ℕ) (node : NodeMeaning) → PartNestsAt depth node → AllByRecursion (PartNestsAt (depth + 1)) (parts_in node)
 inside_nests depth node nests = nest_in depth (depth + 1) node (omega arith) nests
+
+-- the sections of a stream nest only so deep that a walk over them has room
+pub stream_nests : (ss : List SectionMeaning) (tail : ℕ) (b : List ℕ) → AcceptedStream ss tail b
+    → AllByRecursion (PartNestsAt 0) (map SectionNode ss)
+stream_nests ss tail b is = go (is.stream).0 ss (is.stream).2 where
+  go : (fs : List FrameForm) (ss : List SectionMeaning) → Pairwise (MeansSection depth_limit) fs ss
+      → AllByRecursion (PartNestsAt 0) (map SectionNode ss)
+  go [] [] pairs = tt
+  go (f ∷ fs) (s ∷ ss) pairs = ((depth_limit, omega arith, f, pairs.0), go fs ss pairs.1)
+  go _ _ pairs = absurd pairs
 
 -- ---- the innermost level
 

@@ -2,12 +2,13 @@
 
 ghost use Rattle.std.specs.Prelude.{◌≡◌, ◌<◌, ◌^◌, [], ◌∷◌, length, IfSome, IfNone};
 ghost use Rattle.std.specs.Iterator.{YieldsFirstBy, item_count};
-ghost use Rattle.fv_rows.specs.TreeRows.{parts_in, tree_rows};
+ghost use Rattle.fv_rows.specs.TreeRows.{parts_in, rows_of_sections, tree_rows};
+ghost use Rattle.fv_tree.specs.Words.{sections_from};
 ghost use Rattle.fv_rows.specs.RowWalks.{part_node, nesting_inside, nodes_of, row_of, rows_inside, rows_of_nodes, PartNestsAt};
 ghost use Rattle.std.specs.List.{AllByRecursion};
 
 use arrayvec::ArrayVec;
-use fv_tree::{Body, Content, FileView, SectionView, Sections, VolumeView};
+use fv_tree::{Body, Content, FileView, SectionView, Sections, StreamView, VolumeView};
 use std::marker::Model;
 use std::mem::replace;
 
@@ -204,6 +205,18 @@ impl<'v, 'a> TreeWalk<'v, 'a> {
     {
         known(part);
         TreeWalk::over(parts_in(part))
+    }
+
+    /// Returns a walk over all parts of a stream: its sections, and in the same way what is in groups
+    /// and volumes among them. The sections of the stream are at depth 0. Allocates no memory. (PI
+    /// specification, volume 3, section 3.2.4.)
+    pub fn of_stream(stream: &'v StreamView<'a>) -> TreeWalk<'v, 'a>
+        ensures { result ≡ rows_of_sections 0 0 0 (sections_from stream.now.0) }
+    {
+        stream.known();
+        let sections = stream.sections();
+        sections.known();
+        TreeWalk::over(Parts::Sections(sections))
     }
 
     // Returns the first of the rows that are left, if it is the row of a file whose data are plain

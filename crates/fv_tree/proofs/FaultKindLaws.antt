@@ -6,7 +6,7 @@
 -- 3. By induction on the nesting depth each fault in a section has one of these kinds (`section_kind`), and so has each
 --    fault of bytes (`stands_reading`).
 use Rattle.std.proofs.Common.{arith, ◌≡◌, ◌≢◌, ℕ, ◌+◌, zero, suc, Bool, true, false, List, take, refl, sym, ap, ◌∙◌, inl, inr, nat_le}
-use Rattle.fv_base.proofs.Laws.{Option, AllByRecursion, Any, fault_number, depth_limit, fails_among, up_is_not_down, common_steps}
+use Rattle.fv_base.proofs.Laws.{Option, AllByRecursion, Any, First, fault_number, depth_limit, fails_among, up_is_not_down, common_steps}
 use Rattle.fv_base.specs.declared.fault.Fault.{Fault}
 use Rattle.fv_base.specs.declared.fault.FaultKind.{FaultKind}
 use Rattle.fv_base.specs.declared.flash.FileSystem.{FileSystem}
@@ -14,7 +14,8 @@ use Rattle.fv_base.specs.declared.fault.Place.{Place}
 use Rattle.fv_file.specs.Words.{state_checks}
 use Rattle.fv_file.specs.declared.state.FileState.{FileState}
 use Rattle.fv_head.specs.declared.extent.Extent.{Extent}
-use Rattle.fv_section.specs.Words.{FrameForm}
+use Rattle.fv_base.specs.declared.fault.FaultKind.TheVariants as kinds
+use Rattle.fv_section.specs.Words.{FrameFault, FrameForm}
 use Rattle.fv_tree.specs.Words.{StoredFault, InSection, InStream, InVolume, FaultHolds, outermost}
 
 -- the kinds of faults that are found in bytes: the first 21 kinds, which are not about memory, input and output, or
@@ -71,3 +72,12 @@ stands_reading b e stands = volume_kind depth_limit (section_kind depth_limit) e
 -- a fault whose condition holds in bytes is not of any other kind
 pub stands_other : (b : List ℕ) (e : Fault) (k : FaultKind) → is_reading k ≡ false → FaultHolds b e → e.kind ≢ k
 stands_other b e k other stands same = up_is_not_down (is_reading k) (sym (ap is_reading same) ∙ stands_reading b e stands) other
+
+-- a fault of a stream whose condition holds in bytes is of such a kind
+pub stream_reading : (b : List ℕ) (e : Fault) → InStream Any depth_limit e b outermost → is_reading e.kind ≡ true
+stream_reading b e stands = stream_kind depth_limit (section_kind depth_limit) e b outermost stands
+
+-- the first fault of a section header is of such a kind, so it is not OutOfMemory
+pub frame_known : (b : List ℕ) (f : Fault) → FrameFault First b f → f.kind ≢ kinds.OutOfMemory
+frame_known b f bad same =
+    up_is_not_down (is_reading kinds.OutOfMemory) (sym (ap is_reading same) ∙ fails_among First IsReading _ f (refl, (refl, tt)) bad.fails) refl

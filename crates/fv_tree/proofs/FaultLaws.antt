@@ -43,3 +43,7 @@ section_stands (suc n) e f at (inr (kind, opens, first)) = inr (kind, opens, vol
 -- if bytes have a first fault, the condition of this fault holds in the bytes
 pub fault_stands : (b : List ℕ) (e : Fault) → IsFirstOfVolume b e → FaultHolds b e
 fault_stands b e first = volume_by depth_limit (section_stands depth_limit) e b outermost first
+
+-- the same of a stream
+pub stream_stands : (b : List ℕ) (e : Fault) → InStream First depth_limit e b outermost → InStream Any depth_limit e b outermost
+stream_stands b e first = stream_by depth_limit (section_stands depth_limit) e b outermost first

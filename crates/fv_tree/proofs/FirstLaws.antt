@@ -108,6 +108,10 @@ section_once (suc n) e g f at (inr (kind, opens, first)) (inr (_, _, first')) =
 pub first_once : (n : ℕ) (e g : Fault) (b : List ℕ) (at : Place) → InVolume First n e b at → InVolume First n g b at → e ≡ g
 first_once n e g b at = volume_once n (stream_once n (section_once n)) e g at b
 
+-- bytes have at most one first fault as a stream, at every level
+pub stream_first_once : (n : ℕ) (e g : Fault) (b : List ℕ) (at : Place) → InStream First n e b at → InStream First n g b at → e ≡ g
+stream_first_once n e g b at = stream_once n (section_once n) e g b at
+
 -- ---- the result of reading bytes as a volume
 
 abbrev VolumeIsRead : List ℕ → Result (Meaning × ℕ) Fault → Type 0

@@ -49,6 +49,10 @@ pub use Rattle.fv_tree.proofs.WholeInputLaws.{input_prefix, end_found, end_only,
 pub use Rattle.fv_tree.proofs.WholeInputLaws.{ran_out}
 -- the faults of an input are not faults of a reader or a writer
 pub use Rattle.fv_tree.proofs.WholeInputLaws.{IsOfInput, input_kind, stood_kind}
+-- ---- a stream of sections that is a whole input
+
+-- bytes are a stream of at most one list of sections
+pub use Rattle.fv_tree.proofs.StreamInputLaws.{stream_only}
 -- ---- the files as they are stored
 
 -- bytes that are a volume begin with its files; bytes begin with the files of at most one volume, and contain the data

@@ -29,6 +29,7 @@ pub mod SectionWalkLaws
 pub mod SizeLaws
 pub mod SmallCellLaws
 pub mod StreamFrameLaws
+pub mod StreamInputLaws
 pub mod StreamWalkLaws
 pub mod TurnedDifferenceLaws
 pub mod TwinLaws

@@ -102,6 +102,12 @@ sections_one (suc n) (suc k) =
 pub one_meaning : (n k : ℕ) (b : List ℕ) (m j : Meaning) → Denotes n b m → Denotes k b j → m ≡ j
 one_meaning n k = volume_one (Stream n) (Stream k) (stream_one (MeansSection n) (MeansSection k) (sections_one n k))
 
+-- bytes are a stream of at most one list of sections
+pub one_stream : (n k : ℕ) (ss ts : List SectionMeaning) (t u : ℕ) (b : List ℕ) → Stream n ss t b → Stream k ts u b → (ss ≡ ts) × (t ≡ u)
+one_stream n k ss ts t u b (fs, split, pairs) (gs, split', pairs') =
+    let same = one_split 0 gs fs u t b split' split in
+    (pairs_one (MeansSection n) (MeansSection k) (sections_one n k) fs ss ts pairs (rw same.0 at pairs'), sym same.1)
+
 -- bytes begin with at most one volume
 pub one_beginning : (n k j : ℕ) (b : List ℕ) (m v : Meaning) → k ≤ length b → Denotes n (take k b) m → j ≤ length b → Denotes n (take j b) v
     → (m ≡ v) × (k ≡ j)

@@ -3,13 +3,13 @@
 -- 2. The next frame lies within the stream, and some bytes contain it (`walk_ready`). Either it is read (`walk_more`),
 --    or its fault is the first fault of the stream (`walk_first`).
 -- 3. If no frame is left, the stream is read (`walk_found`).
-use Rattle.std.proofs.Common.{arith, ◌≡◌, ℕ, ◌+◌, ◌≤◌, [], ◌∷◌, ◌++◌, List, length, refl, sym, ap, ◌∙◌, inr, append_assoc, append-nil}
+use Rattle.std.proofs.Common.{arith, ◌≡◌, ℕ, ◌+◌, ◌≤◌, [], ◌∷◌, ◌++◌, List, length, refl, sym, ap, ◌∙◌, inr, append_assoc, append-nil, length-append}
 use Rattle.fv_base.proofs.Laws.{First, volume_limit, IsBytes, in_middle, common_steps}
 use Rattle.fv_base.specs.declared.fault.Fault.{Fault}
 use Rattle.fv_base.specs.declared.fault.Place.{Place}
 use Rattle.fv_section.specs.Words.{FrameForm, Splits, frame_len}
 use Rattle.fv_section.proofs.Laws.{split_stands, stands_within}
-use Rattle.fv_tree.specs.Words.{Pairwise, MeansSection, IsStoredFrame, InSection, InStream, Meaning, SectionMeaning, section_by}
+use Rattle.fv_tree.specs.Words.{HasFrame, Pairwise, MeansSection, IsStoredFrame, InSection, InStream, Meaning, SectionMeaning, section_by}
 use Rattle.fv_tree.specs.inner.SectionReads.{EachYields, SectionRead, StreamRead}
 use Rattle.fv_tree.proofs.ListPairs.{pairs_push}
 use Rattle.fv_tree.proofs.SectionReadLaws.{each_push, stream_read}
@@ -61,6 +61,10 @@ module _ (n : ℕ) (b : List ℕ) (tail : ℕ) where
     -- if f is rejected, its fault is the first fault of the stream
     pub walk_first : (x : Fault) (place : Place) → InSection First n x f place → InStream First n x b place
     walk_first x place first = inr (w.frames ++ f ∷ more, tail, whole, (w.frames, f, more, refl, (w.sections, w.means), first))
+
+    -- the stream has a frame
+    pub walk_some : HasFrame b
+    walk_some = (w.frames ++ f ∷ more, tail, whole, λ none. omega (arith, ap length none, length-append w.frames (f ∷ more)))
 
   -- if no frame is left, the stream is read
   pub walk_found : (left : List FrameForm) (old now : List Meaning) → IsBytes b → StreamWalked left old now → left ≡ [] → StreamRead n b old now

@@ -72,7 +72,7 @@ pairs_unplaced n _ _ h = absurd h
 -- ---- a stream
 
 -- if the sections that are made from the bytes b and the volumes vs are the meaning of b, they were read
-stream_kept : (n : ℕ) (b : List ℕ) (vs : List Meaning) (t : ℕ) → n ≤ depth_limit → IsBytes b → length b ≤ volume_limit
+pub stream_kept : (n : ℕ) (b : List ℕ) (vs : List Meaning) (t : ℕ) → n ≤ depth_limit → IsBytes b → length b ≤ volume_limit
     → Stream n (each_by (section_by n) (frames_of b) vs).0 t b → AreKept n b vs
 stream_kept n b vs t few small short stream = grind (arith, common_steps, split_is stream.0 t b stream.1, pairs_unplaced n stream.0 _ stream.2)
 

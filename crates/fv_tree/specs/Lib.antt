@@ -9,6 +9,7 @@ pub mod WalkedSections
 pub mod KeptParts
 pub mod FirstFault
 pub mod InputFaults
+pub mod StreamInputs
 pub mod LocatedFiles
 pub mod Unfixing
 pub mod UnfixedInputs

@@ -24,6 +24,7 @@ pub use Rattle.fv_tree.specs.FirstFault.{FrameFaulty, IfFirst, OneOf, HasTwin, T
 pub use Rattle.fv_tree.specs.FirstFault.{StreamFault, FileFault, BodyFault, VolumeFault, InSection, InStream, InVolume}
 pub use Rattle.fv_tree.specs.FirstFault.{outermost, IsFirstOfVolume, FaultHolds}
 pub use Rattle.fv_tree.specs.InputFaults.{BytesFollowVolume, IsFirstOfInput, FaultHoldsInInput, NotRead, MemoryRanOut}
+pub use Rattle.fv_tree.specs.StreamInputs.{AcceptedStream, HasFrame, IsLongStream, IsFirstOfStream, FaultHoldsInStream, NotStream}
 pub use Rattle.fv_tree.specs.LocatedFiles.{BeginsTiled, IsFirstOfCells, NotTiled, header_len_by}
 pub use Rattle.fv_tree.specs.LocatedFiles.{bare_form, file_form, filled, with_data}
 pub use Rattle.fv_tree.specs.LocatedFiles.{AreFilesOf, BeginWithFiles, HasDataIn, IsFirstOfFiles}

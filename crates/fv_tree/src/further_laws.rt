@@ -10,12 +10,27 @@ ghost use Rattle.fv_tree.specs.Difference.{difference};
 ghost use Rattle.fv_tree.specs.InputFaults.{IsFirstOfInput};
 ghost use Rattle.fv_tree.specs.LocatedFiles.{BeginsTiled, NotTiled};
 ghost use Rattle.fv_tree.specs.LostMarks.{DifferInMarksOnly, LosesMarks};
-ghost use Rattle.fv_tree.specs.Meaning.{Meaning};
+ghost use Rattle.fv_tree.specs.Meaning.{Meaning, SectionMeaning};
+ghost use Rattle.fv_tree.specs.StreamInputs.{AcceptedStream, IsFirstOfStream, NotStream};
 ghost use Rattle.fv_tree.specs.Unfixing.{IsUnfixed, UnfixStops};
 
 /// An input has at most one first fault.
 pub fn one_first_fault()
     ensures { (b : List ℕ) (f g : Fault) → IsFirstOfInput b f → IsFirstOfInput b g → f ≡ g }
+{}
+
+/// An input that should be a stream of sections has at most one first fault.
+pub fn one_first_stream_fault()
+    ensures { (b : List ℕ) (f g : Fault) → IsFirstOfStream b f → IsFirstOfStream b g → f ≡ g }
+{}
+
+/// Every input is a stream of sections, or it is not one and has a first fault, and never both. So
+/// no case is missing from the faults. (PI specification, volume 3, section 3.2.4.)
+pub fn every_stream()
+    ensures either { (b : List ℕ) → IsBytes b
+        → ((sections : List SectionMeaning) × (tail : ℕ) × AcceptedStream sections tail b) ⊎ ((f : Fault) × NotStream b f) }
+    ensures never { (b : List ℕ) (sections : List SectionMeaning) (tail : ℕ) (f : Fault)
+        → AcceptedStream sections tail b → NotStream b f → ⊥ }
 {}
 
 /// Bytes begin with a volume whose body is tiled by cells, or have a first fault of the header or of

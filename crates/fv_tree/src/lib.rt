@@ -1,6 +1,7 @@
 //! The meaning of a firmware volume, read as a view of its bytes. `scan`, `volumes`, `Offsets` and
 //! `FoundVolume` come from fv_flash. Only `read_volume`, `whole_volume`, `whole_volume_with_files`,
-//! `located_files`, `volume_cells`, `first_difference`, `scan` and `volumes` take memory.
+//! `whole_stream`, `located_files`, `volume_cells`, `first_difference`, `scan` and `volumes` take
+//! memory.
 //!
 //! A view does not store sections: `Sections` and `SectionWalk` read them from the input each time
 //! they are walked. If the body of a section is a volume, the view of this volume is stored.
@@ -20,6 +21,7 @@ mod read;
 mod section_walk;
 mod shape;
 mod stored_files;
+mod stream_view;
 mod view;
 mod volume_files;
 
@@ -31,5 +33,6 @@ pub use lookup::{Item, Lookup, file_by_name, file_by_type, next_file, section_by
 pub use read::{read_volume, volume_cells, whole_volume, whole_volume_with_files};
 pub use section_walk::SectionWalk;
 pub use stored_files::located_files;
+pub use stream_view::{StreamView, whole_stream};
 pub use view::{Body, Content, FileView, SectionView, Sections, VolumeView};
 pub use volume_files::{LocatedFile, VOLUME_TOP_FILE};

@@ -16,6 +16,7 @@ ghost use Rattle.fv_tree.specs.inner.SectionReads.{ContentRead, SectionRead, Str
 ghost use Rattle.fv_tree.specs.LocatedFiles.{BeginWithFiles, BeginsTiled, HasDataIn, NotTiled, bare_form, file_form, with_data};
 ghost use Rattle.std.specs.List.{AllByRecursion};
 ghost use Rattle.fv_tree.specs.InputFaults.{FaultHoldsInInput, NotRead};
+ghost use Rattle.fv_tree.specs.StreamInputs.{HasFrame};
 ghost use Rattle.fv_section.specs.Words as framed;
 
 use crate::fault_place::fault_within;
@@ -33,13 +34,13 @@ use std::alloc::Global;
 // The place of some bytes in the bytes that were passed to the call, and the number of levels that
 // may still nest in them.
 #[derive(Clone, Copy)]
-struct Level {
+pub(crate) struct Level {
     place: Place,
     left: u8,
 }
 
 // The level of the bytes that were passed to the call.
-const OUTERMOST: Level = Level {
+pub(crate) const OUTERMOST: Level = Level {
     place: Place {
         offset: 0,
         depth: 0,
@@ -112,7 +113,7 @@ fn read_section<'a>(
 // body of one of these sections, or of a section in a group among them, in the order of the
 // sections.
 #[cycle(read)]
-fn read_stream<'a>(
+pub(crate) fn read_stream<'a>(
     alloc: Global,
     bytes: &'a [u8],
     at: Level,
@@ -121,8 +122,9 @@ fn read_stream<'a>(
     requires place { at.place.offset + length bytes.now < 2 ^ 63 }
     requires depth { at.place.depth + at.left ≤ depth_limit }
     requires small { length bytes.now ≤ volume_limit }
-    ensures { ReadsOrFails (λ _. StreamRead at.left bytes.now volumes.old.items volumes.new.items)
+    ensures read { ReadsOrFails (λ _. StreamRead at.left bytes.now volumes.old.items volumes.new.items)
         (λ f. InStream First at.left f bytes.now at.place) result }
+    ensures memory { IfErr result (λ f. f ≡ out_of_memory → HasFrame bytes.now) }
 {
     let mut walk = match FrameWalk::of(bytes) {
         Ok(walk) => walk,

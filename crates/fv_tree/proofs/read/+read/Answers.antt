@@ -13,7 +13,8 @@ use Rattle.fv_tree.proofs.FilledLaws.{stands}
 use Rattle.fv_tree.proofs.ListPairs.{of_item, kept_pairs, first_refused, all_pairs}
 use Rattle.fv_tree.proofs.NamedLaws.{no_file, read_names}
 use Rattle.fv_tree.proofs.SectionShapeLaws.{frame_small, group_shape, volume_shape, group_first, one_place, nested_first, deep_fault}
-use Rattle.fv_tree.proofs.StreamWalkLaws.{walk_ready, walk_begun, walk_more, walk_first, walk_found}
+use Rattle.fv_tree.proofs.FaultKindLaws.{frame_known}
+use Rattle.fv_tree.proofs.StreamWalkLaws.{walk_ready, walk_begun, walk_more, walk_first, walk_found, walk_some}
 use Rattle.fv_tree.proofs.VolumePartLaws.{made, head_first, opened_whole}
 use Rattle.fv_tree.proofs.read.+read.Goals.{read_with_files-In_ok-views}
 use Rattle.fv_tree.proofs.SectionReadLaws.{leaf_read, group_read, volume_read, plain_read, sectioned_read}
@@ -78,7 +79,7 @@ read_data-returns-in_err-read_stream t c =
     let P : Place → Type 0 = λ i. InStream First c.args.at.left c.in_err-read_stream.field-0.0 c.args.payload.now i in
     let same = one_place _ (data_at c.args.at.place (with_data c.args.payload.now (bare_form c.args.file.now))) (omega arith) refl in
     rw (err_is c.from_residual.ensures.1)
-    (λ ne. (sym c.holds_sections.ensures ∙ c.if-not-holds_sections.false, subst P same (c.in_err-read_stream.ensures ne)))
+    (λ ne. (sym c.holds_sections.ensures ∙ c.if-not-holds_sections.false, subst P same (c.in_err-read_stream.ensures.read ne)))
 
 pub read_data-returns : goal.read_data-returns
 read_data-returns t c = grind (arith, common_steps, sectioned_read) steps 150000
@@ -199,16 +200,25 @@ read_stream-loop-frame-preserved t c =
 pub read_stream-loop-frame-smaller : goal.read_stream-loop-frame-smaller
 read_stream-loop-frame-smaller t c = omega (arith, ap length (rw c.in-Some.is at c.next_frame.ensures.some))
 
-pub read_stream-returns-in-Err : goal.read_stream-returns-in-Err
-read_stream-returns-in-Err t c = λ ne. inl (c.in-Err.fault, c.in-Err.ensures.first, (c.fault_within.ensures.moved ne).1)
+pub read_stream-returns-in-Err-clause-read : goal.read_stream-returns-in-Err-clause-read
+read_stream-returns-in-Err-clause-read t c = λ ne. inl (c.in-Err.fault, c.in-Err.ensures.first, (c.fault_within.ensures.moved ne).1)
 
-pub read_stream-returns-in_err-read_section : goal.read_stream-returns-in_err-read_section
-read_stream-returns-in_err-read_section t c =
+pub read_stream-returns-in-Err-clause-memory : goal.read_stream-returns-in-Err-clause-memory
+read_stream-returns-in-Err-clause-memory t c want =
+    absurd (frame_known c.args.bytes.now c.in-Err.fault c.in-Err.ensures.first (sym c.fault_within.ensures.kind ∙ ap (λ (f : Fault). f.kind) want))
+
+pub read_stream-returns-in_err-read_section-clause-memory : goal.read_stream-returns-in_err-read_section-clause-memory
+read_stream-returns-in_err-read_section-clause-memory t c =
+    rw (err_is c.from_residual.ensures.1) (λ want. walk_some _ _ _ _ _ _ _ _ c.loop-frame.invariant
+    (rw c.in-Some.is at c.next_frame.ensures.some))
+
+pub read_stream-returns-in_err-read_section-clause-read : goal.read_stream-returns-in_err-read_section-clause-read
+read_stream-returns-in_err-read_section-clause-read t c =
     rw (err_is c.from_residual.ensures.1) (λ ne. walk_first _ _ _ _ _ _ _ _ c.loop-frame.invariant
     (rw c.in-Some.is at c.next_frame.ensures.some) _ _ (c.in_err-read_section.ensures ne))
 
-pub read_stream-returns : goal.read_stream-returns
-read_stream-returns t c = walk_found _ _ _ _ _ _ (search rules) c.loop-frame.invariant (rw c.in_default.is at c.next_frame.ensures.none).0
+pub read_stream-returns-clause-read : goal.read_stream-returns-clause-read
+read_stream-returns-clause-read t c = walk_found _ _ _ _ _ _ (search rules) c.loop-frame.invariant (rw c.in_default.is at c.next_frame.ensures.none).0
 
 -- ---- a section that is a group
 
@@ -231,7 +241,7 @@ read_section-returns-in_ok-inside-in-Group t c =
     let f : FrameForm = framed.frame_form c.args.frame.now in
     let ok = c.in_ok-inside-in-Group.ensures.ok in
     let is = sym c.shape_of.ensures ∙ c.in-Group.is in
-    MatchResult-weaker c.read_stream.result c.read_stream.ensures (λ x read. group_read _ _ f c.args.volumes.now.items _ ok.0 is read)
+    MatchResult-weaker c.read_stream.result c.read_stream.ensures.read (λ x read. group_read _ _ f c.args.volumes.now.items _ ok.0 is read)
     (λ e bad ne. group_first _ _ f e c.args.at.place _ ok.0 (group_shape f is) ok.1 ok.2 (bad ne))
 
 -- ---- a section that is opened as a volume
