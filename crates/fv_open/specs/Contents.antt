@@ -1,5 +1,6 @@
 -- The contents of a section, and the way that gave them (PI specification, volume 3, sections 3.2.5.2 and 3.2.5.7).
 use Rattle.std.specs.Prelude.{ℕ, ◌+◌, ◌==◌, nat_lt, min, if◌then◌else◌, List, length, drop, Result, Ok, Err}
+use Rattle.std.specs.Cow.{cow_slice_items}
 use Rattle.std.specs.Result.{result_map_both}
 use Rattle.fv_base.specs.Words.{le_at}
 use Rattle.fv_section.specs.Words.{FrameForm, frame_in}
@@ -17,6 +18,7 @@ use Rattle.fv_open.specs.SectionStreams.{is_stream}
 use Rattle.fv_open.specs.declared.encapsulation.Encapsulation.{Encapsulation}
 use Rattle.fv_open.specs.declared.fault.OpenFault.{OpenFault}
 use Rattle.fv_open.specs.declared.fault.OpenFaultKind.TheVariants as kinds
+use Rattle.fv_open.specs.declared.opened.Opened.{Opened}
 use Rattle.fv_open.specs.declared.way.Way.{Way}
 use Rattle.fv_open.specs.declared.way.Way.TheVariants as ways
 
@@ -94,3 +96,7 @@ contents limit f e = contents_by e.way limit e f (data_from e.data_offset f)
 -- the contents of the section at the start of the bytes b, in at most limit bytes, and the way that gave them
 abbrev pub opened : ℕ → List ℕ → Result (Way × List ℕ) OpenFault
 opened limit b = elim (way_of b) as (λ _. Result (Way × List ℕ) OpenFault) [ Ok e ↦ contents limit (frame_in 0 b) e | Err f ↦ Err f ]
+
+-- what was opened: the way, and the contents
+abbrev pub opened_form : Opened → Way × List ℕ
+opened_form o = (o.way, cow_slice_items o.contents)

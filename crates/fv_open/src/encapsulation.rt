@@ -1,10 +1,10 @@
 //! The header of a compression section or of a GUID-defined section.
 
-ghost use Rattle.std.specs.Prelude.{◌≡◌, ◌+◌, ◌-◌, ◌<◌, ◌≤◌, ◌^◌, length, drop, true, false, IfOk, IfErr};
+ghost use Rattle.std.specs.Prelude.{◌≡◌, ◌≢◌, ◌+◌, ◌-◌, ◌<◌, ◌≤◌, ◌^◌, length, drop, true, false, IfOk, IfErr};
 ghost use Rattle.fv_section.specs.Words.{frame_form, frame_in, frame_len};
 ghost use Rattle.fv_open.specs.Headers.{body_offset, compression_head, data_from, data_offset, guided_head, head_in};
 ghost use Rattle.fv_open.specs.Headers.{fields_len, has_data_offset, lzma_promised, promised, tiano_promised, way_of};
-ghost use Rattle.fv_open.specs.OpenFaults.{open_fault};
+ghost use Rattle.fv_open.specs.OpenFaults.{open_fault, open_out_of_memory};
 ghost use Rattle.fv_open.specs.declared.way.Way.TheVariants as ways;
 
 use crate::fault::{OpenFault, OpenFaultKind};
@@ -90,7 +90,12 @@ pub(crate) fn data_from<'a>(section: &Frame<'a>, offset: usize) -> &'a [u8]
 
 // Returns what the header of a compression section says.
 fn compression_head(section: &Frame<'_>) -> Result<Encapsulation, OpenFault>
-    ensures { result ≡ compression_head (frame_form section.now) }
+    ensures head { result ≡ compression_head (frame_form section.now) }
+    ensures after { IfOk result (λ e. body_offset (frame_form section.now) ≤ e.data_offset) }
+    ensures within { IfOk result (λ e. e.data_offset ≤ frame_len (frame_form section.now)) }
+    ensures sum { IfOk result (λ e. e.way ≢ ways.Crc32) }
+    ensures bound { IfErr result (λ f. f.offset ≤ frame_len (frame_form section.now)) }
+    ensures known { IfErr result (λ f. f ≢ open_out_of_memory) }
 {
     let body = section.body;
     let start = body_offset(section);
@@ -142,6 +147,8 @@ fn guided_head(section: &Frame<'_>) -> Result<Encapsulation, OpenFault>
     ensures after { IfOk result (λ e. body_offset (frame_form section.now) ≤ e.data_offset) }
     ensures within { IfOk result (λ e. e.data_offset ≤ frame_len (frame_form section.now)) }
     ensures sum { IfOk result (λ e. e.way ≡ ways.Crc32 → 24 ≤ length section.now.body.now) }
+    ensures bound { IfErr result (λ f. f.offset ≤ frame_len (frame_form section.now)) }
+    ensures known { IfErr result (λ f. f ≢ open_out_of_memory) }
 {
     let body = section.body;
     let start = body_offset(section);
@@ -172,6 +179,8 @@ pub(crate) fn head_in(section: &Frame<'_>) -> Result<Encapsulation, OpenFault>
     ensures after { IfOk result (λ e. body_offset (frame_form section.now) ≤ e.data_offset) }
     ensures within { IfOk result (λ e. e.data_offset ≤ frame_len (frame_form section.now)) }
     ensures sum { IfOk result (λ e. e.way ≡ ways.Crc32 → 24 ≤ length section.now.body.now) }
+    ensures bound { IfErr result (λ f. f.offset ≤ frame_len (frame_form section.now)) }
+    ensures known { IfErr result (λ f. f ≢ open_out_of_memory) }
 {
     if section.kind == COMPRESSION {
         compression_head(section)
@@ -193,7 +202,12 @@ pub(crate) fn head_in(section: &Frame<'_>) -> Result<Encapsulation, OpenFault>
 /// (at DataOffset). UnknownWay if the type of the section (at 3), its CompressionType or its GUID (at
 /// this field) names no way that is known.
 pub fn way_of(section: &[u8]) -> Result<Encapsulation, OpenFault>
-    ensures { result ≡ way_of section.now }
+    // The result is what the header says, or the first fault.
+    ensures way { result ≡ way_of section.now }
+
+    // The data and the place of a fault are within the bytes.
+    ensures data { IfOk result (λ e. e.data_offset ≤ length section.now) }
+    ensures bound { IfErr result (λ f. f.offset ≤ length section.now) }
 {
     head_in(&first_section(section)?)
 }

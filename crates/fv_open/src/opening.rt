@@ -1,13 +1,13 @@
 //! Opening a section.
 
-ghost use Rattle.std.specs.Prelude.{◌≡◌, ◌⊎◌, ◌+◌, ◌≤◌, ◌<◌, ◌^◌, length, vec_len, Ok, Err, IfOk, IfErr};
-ghost use Rattle.std.specs.Cow.{IsBorrowedSlice, IsOwnedSlice};
+ghost use Rattle.std.specs.Prelude.{◌≡◌, ◌≢◌, ◌⊎◌, ◌+◌, ◌≤◌, ◌<◌, ◌^◌, length, vec_len, Ok, Err, IfOk, IfErr, IsOkAnd, true, false};
+ghost use Rattle.std.specs.Cow.{IsBorrowedSlice};
 ghost use Rattle.fv_packed.specs.Words.{packed_out_of_memory};
 ghost use Rattle.fv_section.specs.Words.{frame_form, frame_len};
-ghost use Rattle.fv_open.specs.Contents.{as_stored, by_way, contents, decoded, opened, standard, stored_sum, with_sum};
-ghost use Rattle.fv_open.specs.Headers.{body_offset};
+ghost use Rattle.fv_open.specs.Contents.{as_stored, by_way, contents, decoded, opened, opened_form, standard, stored_sum, with_sum};
+ghost use Rattle.fv_open.specs.Headers.{body_offset, way_of};
 ghost use Rattle.fv_open.specs.OpenFaults.{open_out_of_memory};
-ghost use Rattle.fv_open.specs.Views.{GivesOpened, opened_form};
+ghost use Rattle.fv_open.specs.inner.Views.{GivesOpened};
 ghost use Rattle.fv_open.specs.Ways.{is_decoded};
 ghost use Rattle.fv_open.specs.declared.way.Way.TheVariants as ways;
 
@@ -32,7 +32,10 @@ fn as_stored<'a>(
     bytes: &'a [u8],
     limit: usize,
 ) -> Result<Opened<'a>, OpenFault>
-    ensures { GivesOpened result (as_stored limit head bytes.now) }
+    ensures gives { GivesOpened result (as_stored limit head bytes.now) }
+    ensures lent { IfOk result (λ o. IsBorrowedSlice o.contents) }
+    ensures bound { IfErr result (λ f. f.offset ≤ head.data_offset) }
+    ensures known { IfErr result (λ f. f ≢ open_out_of_memory) }
 {
     if limit < bytes.len() {
         return Err(OpenFault::at(OpenFaultKind::TooLong, head.data_offset));
@@ -58,8 +61,12 @@ fn with_sum<'a>(
     bytes: &'a [u8],
     limit: usize,
 ) -> Result<Opened<'a>, OpenFault>
-    requires { 24 ≤ length section.now.body.now }
-    ensures { GivesOpened result (with_sum limit head (frame_form section.now) bytes.now) }
+    requires within { head.data_offset ≤ frame_len (frame_form section.now) }
+    requires sum { 24 ≤ length section.now.body.now }
+    ensures gives { GivesOpened result (with_sum limit head (frame_form section.now) bytes.now) }
+    ensures lent { IfOk result (λ o. IsBorrowedSlice o.contents) }
+    ensures bound { IfErr result (λ f. f.offset ≤ frame_len (frame_form section.now)) }
+    ensures known { IfErr result (λ f. f ≢ open_out_of_memory) }
 {
     if limit < bytes.len() {
         return Err(OpenFault::at(OpenFaultKind::TooLong, head.data_offset));
@@ -84,6 +91,8 @@ fn decoded<'a>(
     requires { head.data_offset + length bytes.now < 2 ^ 63 + 8 }
     ensures ok { IfOk found (λ v. GivesOpened result (decoded head bytes.now (by_way way (Ok v.items)))) }
     ensures err { IfErr found (λ f. GivesOpened result (decoded head bytes.now (by_way way (Err f)))) }
+    ensures way { IfOk result (λ o. o.way ≡ way) }
+    ensures bound { IfErr result (λ f. f.offset ≤ head.data_offset + length bytes.now) }
 {
     match found {
         Ok(contents) => Ok(Opened {
@@ -102,7 +111,9 @@ fn standard_contents<'a>(
     limit: usize,
 ) -> Result<Opened<'a>, OpenFault>
     requires { head.data_offset + length bytes.now < 2 ^ 63 + 8 }
-    ensures { GivesOpened result (decoded head bytes.now (standard limit bytes.now)) }
+    ensures gives { GivesOpened result (decoded head bytes.now (standard limit bytes.now)) }
+    ensures way { IfOk result (λ o. is_decoded o.way ≡ true) }
+    ensures bound { IfErr result (λ f. f.offset ≤ head.data_offset + length bytes.now) }
 {
     match standard(alloc, bytes, limit) {
         Ok((way, contents)) => Ok(Opened {
@@ -123,7 +134,10 @@ fn contents<'a>(
     requires after { body_offset (frame_form section.now) ≤ head.data_offset }
     requires within { head.data_offset ≤ frame_len (frame_form section.now) }
     requires sum { head.way ≡ ways.Crc32 → 24 ≤ length section.now.body.now }
-    ensures { GivesOpened result (contents limit (frame_form section.now) head) }
+    ensures gives { GivesOpened result (contents limit (frame_form section.now) head) }
+    ensures lent { IfOk result (λ o. is_decoded o.way ≡ false → IsBorrowedSlice o.contents) }
+    ensures bound { IfErr result (λ f. f.offset ≤ frame_len (frame_form section.now)) }
+    ensures memory { IfErr result (λ f. f ≡ open_out_of_memory → is_decoded head.way ≡ true) }
 {
     let data = data_from(section, head.data_offset);
     match head.way {
@@ -159,8 +173,20 @@ pub fn open<'a>(
     section: &'a [u8],
     limit: usize,
 ) -> Result<Opened<'a>, OpenFault>
+    // The result is what the section contains, and the way.
     ensures found { IfOk result (λ o. opened limit section.now ≡ Ok (opened_form o)) }
+
+    // The error is the first fault of the section, or memory ran out.
     ensures none { IfErr result (λ f. (f ≡ open_out_of_memory) ⊎ (opened limit section.now ≡ Err f)) }
+
+    // Contents that are not decoded are borrowed from the section.
+    ensures lent { IfOk result (λ o. is_decoded o.way ≡ false → IsBorrowedSlice o.contents) }
+
+    // Memory runs out only if the contents have to be decoded.
+    ensures memory { IfErr result (λ f. f ≡ open_out_of_memory → IsOkAnd (way_of section.now) (λ e. is_decoded e.way ≡ true)) }
+
+    // The place of a fault is within the bytes.
+    ensures bound { IfErr result (λ f. f.offset ≤ length section.now) }
 {
     let frame = first_section(section)?;
     let head = head_in(&frame)?;

@@ -1,13 +1,14 @@
 //! Decoding of packed data.
 
-ghost use Rattle.std.specs.Prelude.{◌≡◌, ◌≢◌, ◌⊎◌, ◌+◌, ◌<◌, ◌^◌, length, drop, false, true, IfSome, IfNone, Ok, Err, IfOk, IfErr, IsTrue};
+ghost use Rattle.std.specs.Prelude.{◌≡◌, ◌≢◌, ◌⊎◌, ◌+◌, ◌<◌, ◌≤◌, ◌^◌, length, drop, false, true, IfSome, IfNone, Ok, Err, IfOk, IfErr, IsTrue};
 ghost use Rattle.fv_lzma.specs.Words.{lzma};
 ghost use Rattle.fv_packed.specs.Words.{packed_out_of_memory};
 ghost use Rattle.fv_tiano.specs.Words.{tiano, bits_of};
 ghost use Rattle.fv_tiano.specs.declared.width.Width.TheVariants as widths;
 ghost use Rattle.fv_open.specs.Contents.{customized, first_value, lzma_x86, moved, standard};
 ghost use Rattle.fv_open.specs.SectionStreams.{is_stream};
-ghost use Rattle.fv_open.specs.Views.{GivesWay, IsOther};
+ghost use Rattle.fv_open.specs.Ways.{is_decoded};
+ghost use Rattle.fv_open.specs.inner.Views.{GivesWay, IsOther};
 
 use crate::fault::{OpenFault, OpenFaultKind};
 use crate::sections::is_stream;
@@ -19,7 +20,8 @@ use std::alloc::Global;
 /// Returns the fault of `length` bytes of packed data that begin at an offset of the section.
 pub(crate) fn moved(fault: PackedFault, offset: usize, length: usize) -> OpenFault
     requires { offset + length < 2 ^ 63 + 8 }
-    ensures { result ≡ moved offset length fault }
+    ensures fault { result ≡ moved offset length fault }
+    ensures bound { result.offset ≤ offset + length }
 {
     let place = offset as u64 + fault.offset.min(length as u64);
     match fault.kind {
@@ -143,7 +145,8 @@ pub(crate) fn standard(
     bytes: &[u8],
     limit: usize,
 ) -> Result<(Way, Vec<u8>), PackedFault>
-    ensures { GivesWay result (standard limit bytes.now) }
+    ensures gives { GivesWay result (standard limit bytes.now) }
+    ensures way { IfOk result (λ v. is_decoded v.0 ≡ true) }
 {
     if let Some(contents) = uefi_sections(alloc, bytes, limit)? {
         return Ok((Way::Uefi, contents));
