@@ -11,7 +11,7 @@ use Rattle.fv_base.specs.declared.fault.Fault.{Fault}
 use Rattle.fv_section.specs.Words.{FrameForm, BeginsFrame, Splits, SplitsFrom, frame_len, frame_checks, has_section_size, section_size_at, up_to_4}
 use Rattle.fv_section.specs.Words.{HasFrameAt, IsFirstFrameFault, frame_in}
 use Rattle.fv_section.proofs.Laws.{frame_reads, size_least, length_begun, stream_decided}
-use Rattle.fv_open.specs.SectionStreams.{begins_section, are_sections, is_stream, IsStream}
+use Rattle.fv_open.specs.Words.{begins_section, are_sections, is_stream, IsStream}
 
 -- bytes that begin with a frame begin with a whole section
 pub begun : (f : FrameForm) (b rest : List ℕ) → BeginsFrame f b rest → begins_section b ≡ true
@@ -27,6 +27,10 @@ not_begun at b e bad = by_test (begins_section b) refl where
 -- in no bytes, no whole section begins
 pub none_begun : (b : List ℕ) → length b ≤ 0 → begins_section b ≡ false
 none_begun b none = ap (λ t. t && has_section_size b) (not_at_most 4 (length b) (omega (arith, none)))
+
+-- a frame that begins bytes ends within them
+pub fits_first : (f : FrameForm) (b rest : List ℕ) → BeginsFrame f b rest → frame_len f ≤ length b
+fits_first f b rest h = omega (arith, length_begun f b rest h)
 
 -- a frame at the start of bytes is the frame that is read there
 pub read_first : (b : List ℕ) (f : FrameForm) → HasFrameAt f 0 b → f ≡ frame_in 0 b

@@ -4,4 +4,5 @@ pub mod Ways
 pub mod SectionStreams
 pub mod Headers
 pub mod Contents
-pub mod Views
+pub mod Words
+pub mod inner

@@ -1,10 +1,11 @@
 //! The header of a compression section or of a GUID-defined section.
 
-ghost use Rattle.std.specs.Prelude.{◌≡◌, ◌+◌, ◌-◌, ◌<◌, ◌≤◌, ◌^◌, length, drop, true, false, IfOk, IfErr};
+ghost use Rattle.std.specs.Prelude.{◌≡◌, ◌≢◌, ◌+◌, ◌-◌, ◌<◌, ◌≤◌, ◌^◌, length, drop, true, false, IfOk, IfErr};
 ghost use Rattle.fv_section.specs.Words.{frame_form, frame_in, frame_len};
 ghost use Rattle.fv_open.specs.Headers.{body_offset, compression_head, data_from, data_offset, guided_head, head_in};
 ghost use Rattle.fv_open.specs.Headers.{fields_len, has_data_offset, lzma_promised, promised, tiano_promised, way_of};
-ghost use Rattle.fv_open.specs.OpenFaults.{open_fault};
+ghost use Rattle.fv_open.specs.OpenFaults.{open_fault, open_out_of_memory};
+ghost use Rattle.fv_open.specs.declared.way.Way.TheVariants as ways;
 
 use crate::fault::{OpenFault, OpenFaultKind};
 use crate::offsets::{
@@ -70,8 +71,8 @@ fn promised(way: Way, bytes: &[u8]) -> Option<u64>
     }
 }
 
-// Returns the offset of the first byte after the section header.
-fn body_offset(section: &Frame<'_>) -> usize
+/// Returns the offset of the first byte after the section header.
+pub(crate) fn body_offset(section: &Frame<'_>) -> usize
     ensures { result ≡ body_offset (frame_form section.now) }
 {
     section_header_len(section.extended) as usize
@@ -81,14 +82,20 @@ fn body_offset(section: &Frame<'_>) -> usize
 pub(crate) fn data_from<'a>(section: &Frame<'a>, offset: usize) -> &'a [u8]
     requires after { body_offset (frame_form section.now) ≤ offset }
     requires within { offset ≤ frame_len (frame_form section.now) }
-    ensures { result.now ≡ data_from offset (frame_form section.now) }
+    ensures data { result.now ≡ data_from offset (frame_form section.now) }
+    ensures length { offset + length result.now ≡ frame_len (frame_form section.now) }
 {
     &section.body[offset - body_offset(section)..]
 }
 
 // Returns what the header of a compression section says.
 fn compression_head(section: &Frame<'_>) -> Result<Encapsulation, OpenFault>
-    ensures { result ≡ compression_head (frame_form section.now) }
+    ensures head { result ≡ compression_head (frame_form section.now) }
+    ensures after { IfOk result (λ e. body_offset (frame_form section.now) ≤ e.data_offset) }
+    ensures within { IfOk result (λ e. e.data_offset ≤ frame_len (frame_form section.now)) }
+    ensures sum { IfOk result (λ e. e.way ≢ ways.Crc32) }
+    ensures bound { IfErr result (λ f. f.offset ≤ frame_len (frame_form section.now)) }
+    ensures known { IfErr result (λ f. f ≢ open_out_of_memory) }
 {
     let body = section.body;
     let start = body_offset(section);
@@ -139,6 +146,9 @@ fn guided_head(section: &Frame<'_>) -> Result<Encapsulation, OpenFault>
     ensures head { result ≡ guided_head (frame_form section.now) }
     ensures after { IfOk result (λ e. body_offset (frame_form section.now) ≤ e.data_offset) }
     ensures within { IfOk result (λ e. e.data_offset ≤ frame_len (frame_form section.now)) }
+    ensures sum { IfOk result (λ e. e.way ≡ ways.Crc32 → 24 ≤ length section.now.body.now) }
+    ensures bound { IfErr result (λ f. f.offset ≤ frame_len (frame_form section.now)) }
+    ensures known { IfErr result (λ f. f ≢ open_out_of_memory) }
 {
     let body = section.body;
     let start = body_offset(section);
@@ -168,6 +178,9 @@ pub(crate) fn head_in(section: &Frame<'_>) -> Result<Encapsulation, OpenFault>
     ensures head { result ≡ head_in (frame_form section.now) }
     ensures after { IfOk result (λ e. body_offset (frame_form section.now) ≤ e.data_offset) }
     ensures within { IfOk result (λ e. e.data_offset ≤ frame_len (frame_form section.now)) }
+    ensures sum { IfOk result (λ e. e.way ≡ ways.Crc32 → 24 ≤ length section.now.body.now) }
+    ensures bound { IfErr result (λ f. f.offset ≤ frame_len (frame_form section.now)) }
+    ensures known { IfErr result (λ f. f ≢ open_out_of_memory) }
 {
     if section.kind == COMPRESSION {
         compression_head(section)
@@ -189,7 +202,12 @@ pub(crate) fn head_in(section: &Frame<'_>) -> Result<Encapsulation, OpenFault>
 /// (at DataOffset). UnknownWay if the type of the section (at 3), its CompressionType or its GUID (at
 /// this field) names no way that is known.
 pub fn way_of(section: &[u8]) -> Result<Encapsulation, OpenFault>
-    ensures { result ≡ way_of section.now }
+    // The result is what the header says, or the first fault.
+    ensures way { result ≡ way_of section.now }
+
+    // The data and the place of a fault are within the bytes.
+    ensures data { IfOk result (λ e. e.data_offset ≤ length section.now) }
+    ensures bound { IfErr result (λ f. f.offset ≤ length section.now) }
 {
     head_in(&first_section(section)?)
 }

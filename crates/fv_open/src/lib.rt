@@ -4,6 +4,7 @@
 
 mod encapsulation;
 mod fault;
+pub mod further_laws;
 mod offsets;
 mod opening;
 mod opened;

@@ -1,7 +1,7 @@
 //! The section at the start of bytes, and whether bytes are a stream of sections.
 
-ghost use Rattle.std.specs.Prelude.{◌≡◌, true, false, IfOk, IfErr};
-ghost use Rattle.fv_section.specs.Words.{frame_form, frame_in};
+ghost use Rattle.std.specs.Prelude.{◌≡◌, ◌≤◌, length, true, false, IfOk, IfErr};
+ghost use Rattle.fv_section.specs.Words.{frame_form, frame_in, frame_len};
 ghost use Rattle.fv_open.specs.OpenFaults.{open_fault};
 ghost use Rattle.fv_open.specs.SectionStreams.{begins_section, is_stream};
 ghost use Rattle.fv_open.specs.declared.fault.OpenFaultKind.TheVariants as kinds;
@@ -17,6 +17,7 @@ use fv_section::{Frame, FrameWalk, next_frame};
 pub(crate) fn first_section(bytes: &[u8]) -> Result<Frame<'_>, OpenFault>
     ensures begins { IfOk result (λ _. begins_section bytes.now ≡ true) }
     ensures frame { IfOk result (λ f. frame_form f ≡ frame_in 0 bytes.now) }
+    ensures within { IfOk result (λ f. frame_len (frame_form f) ≤ length bytes.now) }
     ensures none { IfErr result (λ _. begins_section bytes.now ≡ false) }
     ensures fault { IfErr result (λ e. e ≡ open_fault kinds.Short 0) }
 {

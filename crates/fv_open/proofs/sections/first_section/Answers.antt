@@ -1,4 +1,4 @@
-use Rattle.fv_open.proofs.StreamLemmas.{begun, none_begun, not_begun, read_first}
+use Rattle.fv_open.proofs.StreamLemmas.{begun, fits_first, none_begun, not_begun, read_first}
 use Rattle.fv_open.proofs.sections.first_section.Goals as goal
 
 pub returns-in-Ok-Some-clause-begins : goal.returns-in-Ok-Some-clause-begins
@@ -14,3 +14,8 @@ returns-in-Ok-None-clause-none c = none_begun c.args.bytes.now (rw c.in-Ok-None.
 
 pub returns-in-Err-clause-none : goal.returns-in-Err-clause-none
 returns-in-Err-clause-none c = not_begun 0 c.args.bytes.now c.in-Err.field-0 c.in-Err.ensures.first
+
+pub returns-in-Ok-Some-clause-within : goal.returns-in-Ok-Some-clause-within
+returns-in-Ok-Some-clause-within c =
+    let stands = rw c.in-Ok-Some.field-0-is at c.in-Ok-Some.ensures.found in
+    fits_first _ c.args.bytes.now stands.rest stands.begins
