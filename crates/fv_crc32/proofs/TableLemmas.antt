@@ -30,7 +30,7 @@ added_before : (b : Bool) (q h : ℕ) → (if b then bit_xor (bit_xor q h) polyn
 added_before true q h = xor_assoc q h polynomial
 added_before false q h = refl
 
--- what is above the lowest bit moves by one bit
+-- the bits above the lowest bit move by one bit
 bit_moves : (q y : ℕ) → after_bit (bit_xor (q * 2) y) ≡ bit_xor q (after_bit y)
 bit_moves q y =
     let even : q * 2 % 2 ≡ 0 = omega arith in
@@ -42,7 +42,7 @@ bit_moves q y =
 twice : (p n : ℕ) → p * 2 ^ suc n ≡ p * 2 ^ n * 2
 twice p n = ap (λ q. p * q) (pow-suc 2 n) ∙ sym (mul_assoc p (2 ^ n) 2)
 
--- what is above the lowest n bits moves by n bits
+-- the bits above the lowest n bits move by n bits
 bits_move : (n p y : ℕ) → after_bits n (bit_xor (p * 2 ^ n) y) ≡ bit_xor p (after_bits n y)
 unfolding after_bits
 bits_move zero p y = let e : p * 2 ^ zero ≡ p = omega arith in ap (λ q. bit_xor q y) e

@@ -1,6 +1,6 @@
 -- The CRC-32 of the UEFI specification (2.10, section 7.5, CalculateCrc32): the remainder of a division of polynomials
 -- over the bits, in which the lowest bit of a byte comes first. A register is a number below 2^32.
-use Rattle.std.specs.Prelude.{ℕ, zero, suc, ◌-◌, ◌/◌, ◌%◌, ◌^◌, nat_eq, if◌then◌else◌, List, [], ◌∷◌, bit_xor}
+use Rattle.std.specs.Prelude.{ℕ, zero, suc, ◌-◌, ◌/◌, ◌%◌, ◌^◌, ◌<◌, nat_eq, if◌then◌else◌, List, [], ◌∷◌, bit_xor}
 
 -- the polynomial x^32 + x^26 + x^23 + x^22 + x^16 + x^12 + x^11 + x^10 + x^8 + x^7 + x^5 + x^4 + x^2 + x + 1, whose
 -- coefficient of x^n is the bit 31 - n. The coefficient of x^32 is left out.
@@ -28,3 +28,7 @@ after_bytes register (byte ∷ bytes) = after_bytes (after_byte register byte) b
 -- the checksum of bytes: all bits of the register are 1 before the first byte, and are turned after the last
 abbrev pub crc32 : List ℕ → ℕ
 crc32 bytes = 2 ^ 32 - 1 - after_bytes (2 ^ 32 - 1) bytes
+
+-- an item of a list is a byte
+abbrev pub IsByte : ℕ → Type 0
+IsByte b = b < 256

@@ -4,6 +4,7 @@
 #![tactic(auto)]
 
 mod checksum;
+pub mod further_laws;
 mod table;
 pub mod worked_checksums;
 

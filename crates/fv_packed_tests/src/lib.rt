@@ -4,6 +4,10 @@
 #![tactic(auto)]
 
 #[cfg(test)]
+mod crc32;
+#[cfg(test)]
 mod lzma;
 #[cfg(test)]
 mod spelling;
+#[cfg(test)]
+mod x86;

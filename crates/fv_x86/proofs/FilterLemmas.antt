@@ -1,4 +1,4 @@
-use Rattle.std.proofs.Common.{◌≡◌, ◌<◌, ◌≤◌, ◌+◌, ◌/◌, ℕ, suc, List, [], ◌∷◌, ◌++◌, true, false, ◌&&◌, nat_lt, length, take, drop, get_or, if◌then◌else◌, refl, ap, sym, ◌∙◌, arith}
+use Rattle.std.proofs.Common.{◌≡◌, ◌<◌, ◌≤◌, ◌+◌, ◌/◌, ℕ, suc, List, Bool, [], ◌∷◌, ◌++◌, true, false, ◌&&◌, nat_lt, length, take, drop, get_or, if◌then◌else◌, refl, ap, sym, ◌∙◌, arith}
 use Rattle.std.proofs.lemmas.Bool.{and_parts, ltb-true, le-ltb}
 use Rattle.std.proofs.lemmas.List.{append_assoc, at_drop_more, drop-drop, drop_at, length-append, length-take-le, take_at}
 use Rattle.std.proofs.Math.Seq.{take-suc}
@@ -84,3 +84,17 @@ four_bytes bytes at h =
     let three = at_drop_more (λ xs. take 4 (get_or bytes (at + 1) 0 ∷ get_or bytes (at + 2) 0 ∷ xs)) bytes (at + 3) 0 (omega arith) ∙ ap (λ k. take 4 (get_or bytes (at + 1) 0 ∷ get_or bytes (at + 2) 0 ∷ get_or bytes (at + 3) 0 ∷ drop k bytes)) fourth in
     let four = at_drop_more (λ xs. take 4 (get_or bytes (at + 1) 0 ∷ get_or bytes (at + 2) 0 ∷ get_or bytes (at + 3) 0 ∷ xs)) bytes (at + 4) 0 h in
     sym (one ∙ (two ∙ (three ∙ four)))
+
+length_of_branch : (b : Bool) (first second : List ℕ) (n : ℕ) → length first ≡ n → length second ≡ n → length (if b then first else second) ≡ n
+length_of_branch true first second n p q = p
+length_of_branch false first second n p q = q
+
+-- the number of bytes stays
+pub length_of_filtered : (at opcodes : ℕ) (waiting bytes : List ℕ) → length (filtered at opcodes waiting bytes) ≡ length bytes
+length_of_filtered at opcodes [] [] = refl
+length_of_filtered at opcodes [] (byte ∷ after) =
+    ap suc (length_of_branch (is_converted opcodes byte after) _ _ (length after)
+    (length_of_filtered (at + 1) 0 (filtered_bytes at opcodes after) after)
+    (length_of_filtered (at + 1) (passed opcodes byte) [] after))
+length_of_filtered at opcodes (new ∷ waiting) [] = refl
+length_of_filtered at opcodes (new ∷ waiting) (byte ∷ after) = ap suc (length_of_filtered (at + 1) 0 waiting after)

@@ -2,8 +2,8 @@
 use Rattle.std.specs.Prelude.{ℕ, ◌+◌, if◌then◌else◌, List, [], ◌∷◌}
 use Rattle.fv_x86.specs.Instruction.{passed, is_converted, filtered_bytes}
 
--- The bytes from an offset on. The bytes `waiting` belong to a converted instruction, and take the place of the next bytes.
--- An instruction that was converted counts as none for the instructions after it.
+-- The bytes from an offset on. The bytes `waiting` belong to a converted instruction, and take the place of the next
+-- bytes. The opcode of a converted instruction does not count for the instructions after it.
 abbrev pub filtered : ℕ → ℕ → List ℕ → List ℕ → List ℕ
 filtered at opcodes [] [] = []
 filtered at opcodes [] (byte ∷ after) =

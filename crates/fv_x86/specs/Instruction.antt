@@ -49,8 +49,8 @@ is_doubtful opcodes distance = not (nat_eq opcodes 0) && is_sign (distance / wei
 abbrev pub signed : ℕ → ℕ
 signed distance = if nat_eq (distance / 2 ^ 24 % 2) 0 then distance % 2 ^ 24 else distance % 2 ^ 24 + 255 * 2 ^ 24
 
--- The distance from the end of the instruction at an offset to a target. If it is doubtful, the encoder has turned all bits
--- up to that byte, and has added the offset of the end again. So both are taken back.
+-- The distance from the end of the instruction at an offset to a target. If it is doubtful, the encoder has turned all
+-- bits up to that byte, and has added the offset of the end again. So both are taken back.
 abbrev pub distance : ℕ → ℕ → ℕ → ℕ
 distance at opcodes target =
     if is_doubtful opcodes (minus target (end_of at))

@@ -5,6 +5,7 @@
 #![tactic(auto)]
 
 mod filter;
+pub mod further_laws;
 mod instruction;
 pub mod worked_filters;
 
