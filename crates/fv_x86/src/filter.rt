@@ -13,6 +13,8 @@ pub fn decode(bytes: &mut [u8])
     ensures { bytes.new ≡ unfiltered bytes.old }
 {
     let mut at = 0;
+    // Which of the three bytes before `at` are opcodes that were not converted: the sum of 4 for the
+    // byte directly before, 2 for the byte before that, and 1 for the third.
     let mut opcodes = 0;
     while bytes.len() - at > 4 {
         if converts(bytes, at, opcodes) {
@@ -50,7 +52,7 @@ fn convert(bytes: &mut [u8], at: usize, opcodes: u8)
     bytes[at + 1..at + 5].copy_from_slice(&found.to_le_bytes());
 }
 
-// Returns which of the three bytes before the next byte are opcodes.
+// Returns which of the three bytes before the next byte are opcodes, if `byte` stays as it is.
 #[inline]
 fn pass(byte: u8, opcodes: u8) -> u8
     requires { opcodes < 8 }
