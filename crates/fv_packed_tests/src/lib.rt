@@ -7,3 +7,5 @@
 mod lzma;
 #[cfg(test)]
 mod spelling;
+#[cfg(test)]
+mod tiano;
