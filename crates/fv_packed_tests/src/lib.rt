@@ -11,3 +11,5 @@ mod lzma;
 mod spelling;
 #[cfg(test)]
 mod x86;
+#[cfg(test)]
+mod tiano;
