@@ -1,0 +1,9 @@
+//! Tests of the decoders of compressed data, with a module for each crate. They decode data that
+//! other programs have compressed, and data that are damaged. So they would also find an error in a
+//! definition, which no proof finds.
+#![tactic(auto)]
+
+#[cfg(test)]
+mod lzma;
+#[cfg(test)]
+mod spelling;
