@@ -11,6 +11,7 @@ mod opened;
 mod sections;
 mod unpack;
 mod way;
+pub mod worked_sections;
 
 pub use encapsulation::{Encapsulation, way_of};
 pub use fault::{OpenFault, OpenFaultKind};

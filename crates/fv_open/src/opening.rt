@@ -68,17 +68,12 @@ fn with_sum<'a>(
     ensures bound { IfErr result (λ f. f.offset ≤ frame_len (frame_form section.now)) }
     ensures known { IfErr result (λ f. f ≢ open_out_of_memory) }
 {
-    if limit < bytes.len() {
-        return Err(OpenFault::at(OpenFaultKind::TooLong, head.data_offset));
-    }
+    let opened = as_stored(head, bytes, limit)?;
     if crc32(bytes) != stored_sum(section) {
         let place = body_offset(section) + CRC32_OFFSET;
         return Err(OpenFault::at(OpenFaultKind::Sum, place));
     }
-    Ok(Opened {
-        way: head.way,
-        contents: CowSlice::Borrowed(bytes),
-    })
+    Ok(opened)
 }
 
 // Returns what data gave by a way, as contents.

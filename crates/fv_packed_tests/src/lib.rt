@@ -6,4 +6,6 @@
 #[cfg(test)]
 mod lzma;
 #[cfg(test)]
+mod open;
+#[cfg(test)]
 mod spelling;
