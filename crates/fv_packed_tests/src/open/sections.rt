@@ -82,5 +82,7 @@ fn faults_are_written_with_their_numbers(rt: HostRuntime) {
         panic!(rt; "opened");
     };
     let text = format!(in rt.alloc(); "{fault}").expect(&rt, "memory");
-    assert!(rt; text.as_str() == "the way to open the section is not known (section fault 2) at offset 8");
+    assert!(rt;
+        text.as_str() == "the way to open the section is not known (section fault 2) at offset 8"
+    );
 }
