@@ -43,8 +43,8 @@ begins_all f k b rest h = record {
   head = h.head;
   is_header = h.is_header;
   text =
-    sym (take-append-drop k b) ∙ ap (λ l. l ++ drop k b) h.text ∙ append_assoc h.head (f.body ++ rest) (drop k b)
-    ∙ ap (λ l. h.head ++ l) (append_assoc f.body rest (drop k b));
+      sym (take-append-drop k b) ∙ ap (λ l. l ++ drop k b) h.text ∙ append_assoc h.head (f.body ++ rest) (drop k b)
+      ∙ ap (λ l. h.head ++ l) (append_assoc f.body rest (drop k b));
 }
 
 -- ---- bytes that split

@@ -97,6 +97,6 @@ contents limit f e = contents_by e.way limit e f (data_from e.data_offset f)
 abbrev pub opened : ℕ → List ℕ → Result (Way × List ℕ) OpenFault
 opened limit b = elim (way_of b) as (λ _. Result (Way × List ℕ) OpenFault) [ Ok e ↦ contents limit (frame_in 0 b) e | Err f ↦ Err f ]
 
--- what was opened: the way, and the contents
+-- the way and the contents of an opened section
 abbrev pub opened_form : Opened → Way × List ℕ
 opened_form o = (o.way, cow_slice_items o.contents)

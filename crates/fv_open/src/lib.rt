@@ -6,14 +6,15 @@ mod encapsulation;
 mod fault;
 pub mod further_laws;
 mod offsets;
-mod opening;
 mod opened;
+mod opening;
 mod sections;
 mod unpack;
 mod way;
+pub mod worked_sections;
 
 pub use encapsulation::{Encapsulation, way_of};
 pub use fault::{OpenFault, OpenFaultKind};
-pub use opening::open;
 pub use opened::Opened;
+pub use opening::open;
 pub use way::Way;

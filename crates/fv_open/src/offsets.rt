@@ -42,9 +42,11 @@ pub(crate) const CRC32_LEN: usize = 24;
 
 /// The length of an LZMA stream's header, and the offset in it of the length of the contents, 8 bytes.
 pub(crate) const LZMA_HEADER_LEN: usize = 13;
+
 pub(crate) const LZMA_LENGTH_OFFSET: usize = 5;
 
 /// The length of the header of Tiano's compression, and the offset in it of the length of the
 /// contents, 4 bytes.
 pub(crate) const TIANO_HEADER_LEN: usize = 8;
+
 pub(crate) const TIANO_LENGTH_OFFSET: usize = 4;

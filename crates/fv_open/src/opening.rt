@@ -13,9 +13,9 @@ ghost use Rattle.fv_open.specs.declared.way.Way.TheVariants as ways;
 
 use crate::encapsulation::{Encapsulation, body_offset, data_from, head_in};
 use crate::fault::{OpenFault, OpenFaultKind};
+use crate::offsets::CRC32_OFFSET;
 use crate::opened::Opened;
 use crate::sections::first_section;
-use crate::offsets::CRC32_OFFSET;
 use crate::unpack::{customized, lzma_x86, moved, standard};
 use crate::way::Way;
 use fv_base::field::u32_at;
@@ -68,17 +68,12 @@ fn with_sum<'a>(
     ensures bound { IfErr result (λ f. f.offset ≤ frame_len (frame_form section.now)) }
     ensures known { IfErr result (λ f. f ≢ open_out_of_memory) }
 {
-    if limit < bytes.len() {
-        return Err(OpenFault::at(OpenFaultKind::TooLong, head.data_offset));
-    }
+    let opened = as_stored(head, bytes, limit)?;
     if crc32(bytes) != stored_sum(section) {
         let place = body_offset(section) + CRC32_OFFSET;
         return Err(OpenFault::at(OpenFaultKind::Sum, place));
     }
-    Ok(Opened {
-        way: head.way,
-        contents: CowSlice::Borrowed(bytes),
-    })
+    Ok(opened)
 }
 
 // Returns what data gave by a way, as contents.
@@ -168,11 +163,7 @@ fn contents<'a>(
 /// Short or UnknownWay, as `way_of`. Damaged or TooLong, where the decoder stopped. TooLong at the
 /// contents if they are stored as they are and longer than the limit. Sum at the stored CRC32, if the
 /// contents have another one. OutOfMemory at 0.
-pub fn open<'a>(
-    alloc: Global,
-    section: &'a [u8],
-    limit: usize,
-) -> Result<Opened<'a>, OpenFault>
+pub fn open<'a>(alloc: Global, section: &'a [u8], limit: usize) -> Result<Opened<'a>, OpenFault>
     // The result is what the section contains, and the way.
     ensures found { IfOk result (λ o. opened limit section.now ≡ Ok (opened_form o)) }
 

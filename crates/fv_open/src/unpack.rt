@@ -82,11 +82,7 @@ fn after_first(
 
 /// Returns what the data of a compression section of CompressionType 2 give: an LZMA stream at their
 /// start or, if that is not a stream, after four bytes.
-pub(crate) fn customized(
-    alloc: Global,
-    bytes: &[u8],
-    limit: usize,
-) -> Result<Vec<u8>, PackedFault>
+pub(crate) fn customized(alloc: Global, bytes: &[u8], limit: usize) -> Result<Vec<u8>, PackedFault>
     ensures found { IfOk result (λ v. customized limit bytes.now ≡ Ok v.items) }
     ensures none { IfErr result (λ f. (f ≡ packed_out_of_memory) ⊎ (customized limit bytes.now ≡ Err f)) }
 {
@@ -113,11 +109,7 @@ pub(crate) fn lzma_x86(alloc: Global, bytes: &[u8], limit: usize) -> Result<Vec<
 }
 
 // Returns the contents by the compression of the UEFI specification, if they are a stream of sections.
-fn uefi_sections(
-    alloc: Global,
-    bytes: &[u8],
-    limit: usize,
-) -> Result<Option<Vec<u8>>, PackedFault>
+fn uefi_sections(alloc: Global, bytes: &[u8], limit: usize) -> Result<Option<Vec<u8>>, PackedFault>
     ensures some { IfOk result (λ o. IfSome o (λ v. (tiano (bits_of widths.Uefi) limit bytes.now ≡ Ok v.items) × (is_stream v.items ≡ true))) }
     ensures none { IfOk result (λ o. IfNone o (IsOther (tiano (bits_of widths.Uefi) limit bytes.now))) }
     ensures memory { IfErr result (λ f. f ≡ packed_out_of_memory) }

@@ -8,8 +8,10 @@ mod crc32;
 #[cfg(test)]
 mod lzma;
 #[cfg(test)]
+mod open;
+#[cfg(test)]
 mod spelling;
 #[cfg(test)]
-mod x86;
-#[cfg(test)]
 mod tiano;
+#[cfg(test)]
+mod x86;
