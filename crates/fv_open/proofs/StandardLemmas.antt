@@ -1,9 +1,8 @@
 -- The rule for a compression section of CompressionType 1, and the two kinds of results.
-use Rattle.std.proofs.Common.{◌≡◌, ◌⊎◌, refl, sym, ap, ◌∙◌, inl, inr, List, ℕ, Bool, true, false, Result, Ok, Err, if◌then◌else◌}
+use Rattle.std.proofs.Common.{◌≡◌, ◌⊎◌, refl, ap, inl, inr, List, ℕ, Bool, true, false, Result, Ok, Err, if◌then◌else◌}
 use Rattle.fv_packed.specs.declared.fault.PackedFault.{PackedFault}
 use Rattle.fv_open.specs.Words.{by_way, standard_of}
 use Rattle.fv_open.specs.Words.{is_stream, IsStream}
-use Rattle.fv_open.specs.declared.way.Way.{Way}
 use Rattle.fv_open.specs.declared.way.Way.TheVariants as ways
 use Rattle.fv_open.proofs.StreamLemmas.{pass_splits, stream_passes}
 

@@ -4,9 +4,9 @@
 -- 3. Bytes in which a section is missing where one should begin do not pass it (`missing_fails`, `fault_fails`).
 -- 4. Bytes that pass the test split (`pass_splits`), because bytes split or have a first fault.
 use Rattle.std.proofs.Common.{◌≡◌, ◌⊎◌, ◌≤◌, ◌<◌, ℕ, ◌+◌, ◌-◌, ◌%◌, ◌==◌, ◌&&◌, ◌||◌, [], ◌∷◌, ◌++◌, zero, suc, List, length, take, drop, refl, sym, ap}
-use Rattle.std.proofs.Common.{◌∙◌, subst, inl, inr, Bool, true, false, arith, nat_le, append_assoc, take-append-drop, length-append, length-drop}
-use Rattle.std.proofs.Common.{drop-drop, drop_at, length-take-le, eq-eqb, true≢false}
-use Rattle.fv_base.proofs.Laws.{common_steps, and_join, and_split, not_at_most, not_equal, none_fails, drop-take, drop_all, First, Fails, AllHold, IsFirstFault}
+use Rattle.std.proofs.Common.{◌∙◌, subst, inl, inr, Bool, true, false, arith, append_assoc, take-append-drop, length-append, length-drop}
+use Rattle.std.proofs.Common.{drop-drop, drop_at, length-take-le, true≢false}
+use Rattle.fv_base.proofs.Laws.{and_join, and_split, not_at_most, not_equal, none_fails, drop-take, drop_all, First, IsFirstFault}
 use Rattle.fv_base.specs.declared.fault.Fault.{Fault}
 use Rattle.fv_section.specs.Words.{FrameForm, BeginsFrame, Splits, SplitsFrom, frame_len, frame_checks, has_section_size, section_size_at, up_to_4}
 use Rattle.fv_section.specs.Words.{HasFrameAt, IsFirstFrameFault, frame_in}

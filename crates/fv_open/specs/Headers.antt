@@ -1,7 +1,7 @@
 -- What the header of a compression section or of a GUID-defined section says (PI specification, volume 3, sections
 -- 3.2.5.2, EFI_COMPRESSION_SECTION, and 3.2.5.7, EFI_GUID_DEFINED_SECTION). A section f is a frame at the offset 0.
-use Rattle.std.specs.Prelude.{ℕ, ◌+◌, ◌-◌, ◌==◌, ◌&&◌, nat_lt, nat_le, Bool, true, false, if◌then◌else◌, List, length}
-use Rattle.std.specs.Prelude.{take, drop, slice_index, Option, None, Some, Result, Ok, Err}
+use Rattle.std.specs.Prelude.{ℕ, ◌+◌, ◌-◌, ◌==◌, ◌&&◌, nat_lt, nat_le, Bool, if◌then◌else◌, List, length}
+use Rattle.std.specs.Prelude.{drop, slice_index, Option, None, Some, Result, Ok, Err}
 use Rattle.fv_base.specs.Words.{le_at, field}
 use Rattle.fv_section.specs.Words.{FrameForm, section_header_len, frame_len, frame_in}
 use Rattle.fv_open.specs.OpenFaults.{open_fault}

@@ -1,6 +1,6 @@
 -- Whether bytes are a stream of sections (PI specification, volume 3, section 3.2.4). This test is true exactly if the
 -- bytes split into sections and a tail (`Splits` of fv_section): `is_stream_law` states that.
-use Rattle.std.specs.Prelude.{◌≡◌, ℕ, zero, suc, ◌==◌, ◌&&◌, ◌||◌, nat_le, Bool, true, List, length, drop}
+use Rattle.std.specs.Prelude.{ℕ, zero, suc, ◌==◌, ◌&&◌, ◌||◌, nat_le, Bool, List, length, drop}
 use Rattle.fv_section.specs.Words.{FrameForm, Splits, has_section_size, section_size_at, up_to_4}
 
 -- whether the bytes begin with a whole section

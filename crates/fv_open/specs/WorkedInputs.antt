@@ -1,7 +1,6 @@
 -- The inputs and the results of the worked sections, which `src/worked_sections.rt` states.
 use Rattle.std.specs.Prelude.{ℕ, ◌+◌, List, [], ◌∷◌, ◌++◌, length, replicate, Result, Ok, Err}
 use Rattle.fv_open.specs.OpenFaults.{open_fault}
-use Rattle.fv_open.specs.declared.encapsulation.Encapsulation.{Encapsulation}
 use Rattle.fv_open.specs.declared.fault.OpenFault.{OpenFault}
 use Rattle.fv_open.specs.declared.fault.OpenFaultKind.{OpenFaultKind}
 use Rattle.fv_open.specs.declared.way.Way.{Way}
