@@ -19,6 +19,9 @@
  *   What is in a volume, at every level?                  fv_volume_tree            a volume                22
  *   Which digest does each of these parts have?           fv_volume_tree_digests    a volume                9
  *   What are the bytes of one of these parts?             fv_volume_extract         a volume                5
+ *   What is in a stream of sections, at every level?      fv_sections_tree          a stream                22
+ *   Which digest does each of these parts have?           fv_sections_tree_digests  a stream                9
+ *   What are the bytes of one of these parts?             fv_sections_extract       a stream                5
  *   Is a dependency expression true?                      fv_depex_evaluate         expression, then more   18
  *   Which blocks does a hand-off list have?               fv_hobs_read              a list, then more       14
  *   What is a GUID as text?                               fv_guid_text              a GUID                  none
@@ -27,7 +30,8 @@
  *   Which version of the library is this?                 fv_version(_number)       none                    none
  *
  * Input: "a volume" must be exactly one volume, and bytes after it are fault 8. "Then more" means that other bytes may
- * follow the volume, the list or the expression, and that the call does not read them. Any bytes may be passed to any
+ * follow the volume, the list or the expression, and that the call does not read them. "A stream" must be sections one
+ * after another, as a compressed or GUID-defined section holds them when it is opened. Any bytes may be passed to any
  * call: bytes that are not an input of the right kind are rejected with a fault.
  * Memory: in addition to its arguments, a call takes up to this many times the size of the input. This was measured
  * for inputs that consist of tiny parts only, which cost most.
@@ -54,10 +58,11 @@
  *   0x301 ..             the faults and their order. 24 is out of memory, in every call. If memory runs out, a call
  *                        returns 24 instead of the result that it would have returned with more memory. (But a call
  *                        that reads an input as a volume returns 24 only if that input begins with the header of a
- *                        volume.) Only `fault` was written.
+ *                        volume, and fv_sections_* only if the input has a section and all its headers are right.)
+ *                        Only `fault` was written.
  *   FV_BAD_GUID          The text is not a GUID. Only fv_guid_parse returns this result. Nothing was written.
- *   FV_NOT_FOUND         The tree of the volume has no row with the number that was passed. Returned only if the input
- *                        is a volume. Only `fault` was written: its fields are 0.
+ *   FV_NOT_FOUND         The tree of the input has no row with the number that was passed. Returned only if the input
+ *                        is a volume, or for fv_sections_extract a stream. Only `fault` was written: its fields are 0.
  *   FV_BUFFER_TOO_SMALL  The buffer is too small. Returned only if the input has no fault and the part exists. Then the
  *                        counts (`count`, `length`, `list_length`, `found`) have the values that FV_OK would have given
  *                        them, and the fields of `fault` are 0. Nothing else was written. So pass no buffer (NULL, and
@@ -83,7 +88,8 @@
  *                               volumes of one meaning, such as a volume and its canonical image, have the same rows
  *                               except for these two fields.
  * fv_volume_extract writes bytes of the canonical image, and the digests of fv_volume_tree_digests cover bytes of the
- * canonical image, so both depend only on the meaning too.
+ * canonical image, so both depend only on the meaning too. The same is true of the calls fv_sections_*, for which the
+ * meaning of a stream is the list of its sections, and the number of bytes after the last section.
  *
  * Proofs: the calls from fv_header_read to fv_hobs_read are written in Rattle, below a layer in C. Each of them is
  * proved to do what its comment here says, if that layer accepts its pointers, except for these statements:
@@ -91,7 +97,8 @@
  *   - which input fv_volume_compare reports if memory runs out after both inputs were read (it is proved that the
  *     function below the call that compares them reports 0; but for the same two inputs, memory could also have run out
  *     while the second was read, so no statement about the arguments can show the difference);
- *   - how often fv_volume_tree and fv_volume_tree_digests read the input, and that no image is kept in memory;
+ *   - how often fv_volume_tree and fv_volume_tree_digests read the input, and that these calls and
+ *     fv_sections_tree_digests keep no image in memory;
  *   - the numbers for memory and stack above, which were measured.
  * This header, the layer (src/calls.c: FV_BAD_ARGUMENT, and NULL in place of an empty argument), fv_guid_text and
  * fv_guid_parse (src/guid.c), src/heap.c and src/result_text.c are plain C, and not proved. The proofs hold only if the
@@ -108,10 +115,10 @@
 #define FV_VERSION_PATCH 0
 #define FV_VERSION_NUMBER 0x020100 /* major << 16 | minor << 8 | patch */
 
-#define FV_LENGTH_MAX 268435456u /* the most bytes of a volume, and of an image that is checked or normalised */
+#define FV_LENGTH_MAX 268435456u /* the most bytes of a volume, a stream, or an image that is checked or normalised */
 #define FV_DIFFERENCE_SIZE 553   /* the most bytes of the text of fv_volume_compare, its NUL included */
 #define FV_GUID_TEXT_SIZE 37     /* the bytes of the text of fv_guid_text, its NUL included */
-#define FV_NO_PARENT UINT64_MAX  /* the parent of the first row of a tree */
+#define FV_NO_PARENT UINT64_MAX  /* the parent of a row of depth 0, which no row holds */
 
 /* FV_.._ are for this header only, which undefines them at its end. */
 #if defined __cplusplus
@@ -329,11 +336,11 @@ FV_ASSERT_(sizeof(fv_cell) == 56 && offsetof(fv_cell, offset) == 0 && offsetof(f
                offsetof(fv_cell, name) == 32 && offsetof(fv_cell, reserved) == 48,
            "the layout of fv_cell");
 
-/* A volume, a file or a section of the tree of a volume. A field that it does not have is 0. */
+/* A volume, a file or a section of the tree of a volume or of a stream. A field that it does not have is 0. */
 typedef struct fv_node {
     uint64_t offset;        /* where in the input the volume, the file's data or the section's body is stored */
     uint64_t length;        /* the number of these bytes */
-    uint64_t parent;        /* the number of the row that holds it; FV_NO_PARENT for the first */
+    uint64_t parent;        /* the number of the row that holds it; FV_NO_PARENT if no row does */
     uint64_t index;         /* its number among the parts that its parent holds, from 0 */
     uint32_t depth;         /* the number of rows around it */
     uint32_t kind;          /* FV_NODE_* */
@@ -484,6 +491,37 @@ FV_CHECKED_ fv_result fv_volume_tree_digests(const void *volume, size_t size, fv
  * Leaves *length unchanged after a fault and after FV_NOT_FOUND. */
 FV_CHECKED_ fv_result fv_volume_extract(const void *volume, size_t size, size_t row, void *buffer, size_t buffer_size,
                                         size_t *length, fv_fault *fault);
+
+/* Writes the whole tree of a stream of sections, which is what a compressed or GUID-defined section holds when it is
+ * opened: sections one after another, each at a multiple of 4 from the first byte. Writes a row for each section of the
+ * stream and, in the same way, for what is in groups and volumes among them. Each row is followed by the rows of the
+ * parts that it holds. The sections of the stream have depth 0 and the parent FV_NO_PARENT: the stream has no row.
+ * Sets *count to the number of rows: 0 if the stream is empty. All else is as for fv_volume_tree.
+ * Returns FV_OK, or FV_BUFFER_TOO_SMALL if *count > room. Otherwise returns the first fault, 1 to 21, or 24, and leaves
+ * *count unchanged. FV_FAULT_LENGTH comes first if size > FV_LENGTH_MAX. */
+FV_CHECKED_ fv_result fv_sections_tree(const void *sections, size_t size, fv_node *rows, size_t room, size_t *count,
+                                       fv_fault *fault);
+
+/* Writes the SHA-256 digests of the parts of the stream, one for each row of fv_sections_tree, in the same order. Each
+ * digest covers the bytes that fv_sections_extract writes for its row. A section whose content is FV_CONTENT_SECTIONS or
+ * FV_CONTENT_VOLUME, and no other row, has 32 zero bytes instead of a digest. Sets *count to the number of digests. No
+ * image is kept in memory.
+ * Returns FV_OK, or FV_BUFFER_TOO_SMALL if *count > room. Otherwise returns the first fault, 1 to 24, and leaves *count
+ * unchanged: 22 or 23 if a volume in the stream does not fit in its canonical form. */
+FV_CHECKED_ fv_result fv_sections_tree_digests(const void *sections, size_t size, fv_sha256 *rows, size_t room,
+                                               size_t *count, fv_fault *fault);
+
+/* Writes the part of the stream that is row number `row` of fv_sections_tree to the start of the buffer, and the number
+ * of its bytes to *length. The bytes are in canonical form: for a volume its own canonical image, for a file its data as
+ * the canonical image of its volume has them, for a section its body. In these bytes, a volume in a file or a section is
+ * replaced by its own canonical image, and the bytes between sections are 0. The body of a section that holds bytes is
+ * as it is in the input.
+ * Returns FV_OK, or FV_BUFFER_TOO_SMALL if buffer_size < *length. Returns FV_NOT_FOUND if the stream has no row with this
+ * number. Otherwise returns the first fault, 1 to 21; or 22 or 23, if the part is a volume, or holds one, that does not
+ * fit in its canonical form; or 24. For 22 and 23, fault->depth counts only the groups and opened volumes within the
+ * part. Leaves *length unchanged after a fault and after FV_NOT_FOUND. */
+FV_CHECKED_ fv_result fv_sections_extract(const void *sections, size_t size, size_t row, void *buffer,
+                                          size_t buffer_size, size_t *length, fv_fault *fault);
 
 /* Evaluates the dependency expression with which the bytes begin, as if exactly the GUIDs of `installed` were
  * installed, and sets *value to FV_DEPEX_*. `phase` is FV_PHASE_*. The value does not depend on bytes after the END op.

@@ -9,7 +9,6 @@
 #include "arguments.h"
 
 fv_result fvp_volume_compare(const void *, size_t, const void *, size_t, char *, size_t, fv_comparison *, fv_fault *);
-fv_result fvp_volume_extract(const void *, size_t, size_t, void *, size_t, size_t *, fv_fault *);
 fv_result fvp_depex_evaluate(const void *, size_t, uint32_t, const fv_guid *, size_t, uint32_t *, fv_fault *);
 fv_result fvp_hobs_read(const void *, size_t, fv_hob *, size_t, size_t *, size_t *, fv_fault *);
 
@@ -69,6 +68,17 @@ INLINE void *buffer_of(void *pointer)
         return fvp_##name(input(bytes), size, buffer_of(rows), room, count, fault);                                   \
     }
 
+/* Defines a call that writes the part of a row of its input. */
+#define PART_CALL(name)                                                                                               \
+    fv_result fvp_##name(const void *, size_t, size_t, void *, size_t, size_t *, fv_fault *);                         \
+    fv_result fv_##name(const void *bytes, size_t size, size_t row, void *buffer, size_t buffer_size, size_t *length, \
+                        fv_fault *fault)                                                                              \
+    {                                                                                                                 \
+        NEEDS_FAULT(fv_##name(bytes, size, row, buffer, buffer_size, length, &unwanted))                              \
+        CHECK(BYTES(bytes, size), BUFFER(buffer, buffer_size), RESULT(length));                                       \
+        return fvp_##name(input(bytes), size, row, buffer_of(buffer), buffer_size, length, fault);                    \
+    }
+
 VALUE_CALL(header_read, fv_header)
 VALUE_CALL(volume_is_canonical, uint32_t)
 VALUE_CALL(volume_digest, fv_sha256)
@@ -80,6 +90,10 @@ ROWS_CALL(image_check, fv_volume_check)
 ROWS_CALL(volume_cells, fv_cell)
 ROWS_CALL(volume_tree, fv_node)
 ROWS_CALL(volume_tree_digests, fv_sha256)
+ROWS_CALL(sections_tree, fv_node)
+ROWS_CALL(sections_tree_digests, fv_sha256)
+PART_CALL(volume_extract)
+PART_CALL(sections_extract)
 
 fv_result fv_volume_compare(const void *first, size_t first_size, const void *second, size_t second_size, char *text,
                             size_t text_size, fv_comparison *found, fv_fault *fault)
@@ -88,14 +102,6 @@ fv_result fv_volume_compare(const void *first, size_t first_size, const void *se
     CHECK(BYTES(first, first_size), BYTES(second, second_size), BUFFER(text, text_size), RESULT(found));
     return fvp_volume_compare(input(first), first_size, input(second), second_size, buffer_of(text), text_size, found,
                               fault);
-}
-
-fv_result fv_volume_extract(const void *volume, size_t size, size_t row, void *buffer, size_t buffer_size,
-                            size_t *length, fv_fault *fault)
-{
-    NEEDS_FAULT(fv_volume_extract(volume, size, row, buffer, buffer_size, length, &unwanted))
-    CHECK(BYTES(volume, size), BUFFER(buffer, buffer_size), RESULT(length));
-    return fvp_volume_extract(input(volume), size, row, buffer_of(buffer), buffer_size, length, fault);
 }
 
 fv_result fv_depex_evaluate(const void *expression, size_t size, uint32_t phase, const fv_guid *installed,

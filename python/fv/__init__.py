@@ -15,14 +15,17 @@
     fv.volume_tree(volume)          a volume, its files, their sections, and the same for each volume in a section
     fv.volume_tree_digests(volume)  the SHA-256 digest for each row of the tree
     fv.volume_extract(volume, row)  the bytes of the part in that row of the tree
+    fv.sections_tree(sections)      the tree of a stream of sections, which is what a compressed section holds
+    fv.sections_tree_digests(sections), fv.sections_extract(sections, row)     the same for the rows of this tree
     fv.depex_evaluate(data, phase)  the truth value of a dependency expression
     fv.hobs_read(data)              the blocks of a hand-off list
     fv.result_text(code)            a sentence that explains a fault
     fv.version()                    the version of the library
 
 The functions have the names of the calls in fv.h, without `fv_`. (fv_guid_text and fv_guid_parse have no function here:
-a GUID is a uuid.UUID.) An `image` may be any bytes, and a `volume` must be
-exactly one volume. `data` begin with the volume or the list that is read, and the bytes after it are ignored.
+a GUID is a uuid.UUID.) An `image` may be any bytes, a `volume` must be exactly one volume, and `sections` must be
+exactly one stream of sections. `data` begin with the volume or the list that is read, and the bytes after it are
+ignored.
 
 An input may be any object with the buffer protocol: bytes, bytearray, memoryview, mmap. A bytes object is read in
 place, and so is a memoryview of a bytes object. Any other buffer is copied first, since something else may write to it
@@ -61,6 +64,9 @@ from ._calls import (
     image_check,
     image_normalise,
     image_scan,
+    sections_extract,
+    sections_tree,
+    sections_tree_digests,
     version,
     version_number,
     volume_cells,
@@ -82,7 +88,8 @@ __version__ = "2.1.0.dev0"
 __all__ = [
     "LENGTH_MAX", "Buffer", "Cell", "CellKind", "Content", "Error", "Fault", "FaultCode", "FaultError", "FileType",
     "Header", "Hob", "HobList", "Node", "NodeKind", "Phase", "SectionType", "VolumeCheck", "depex_evaluate",
-    "header_read", "hobs_read", "image_check", "image_normalise", "image_scan", "result_text", "version",
-    "version_number", "volume_cells", "volume_compare", "volume_digest", "volume_extract", "volume_is_canonical",
-    "volume_normalise", "volume_tree", "volume_tree_digests", "volume_unfix",
+    "header_read", "hobs_read", "image_check", "image_normalise", "image_scan", "result_text", "sections_extract",
+    "sections_tree", "sections_tree_digests", "version", "version_number", "volume_cells", "volume_compare",
+    "volume_digest", "volume_extract", "volume_is_canonical", "volume_normalise", "volume_tree", "volume_tree_digests",
+    "volume_unfix",
 ]  # fmt: skip

@@ -166,12 +166,20 @@ def volume_tree_digests(volume: Buffer, *, copy: bool = True) -> Sequence[bytes 
     return _over(volume, copy, _rows, lib.fv_volume_tree_digests, Digests)
 
 
-def _part(address: Any, size: int, number: int) -> bytes:
-    """Returns the bytes of the part with this number. No part is longer than the volume."""
+def _part(address: Any, size: int, call: Any, number: int) -> bytes:
+    """Returns the bytes of the part with this number. No part is longer than the input."""
     part, length, fault = new_bytes(size), bytes(_SIZE.size), bytes(FAULT_SIZE)
-    if result := lib.fv_volume_extract(address, size, number, part, size, length, fault):
+    if result := call(address, size, number, part, size, length, fault):
         raise error_of(result, fault)
     return part[: _SIZE.unpack(length)[0]]
+
+
+def _number(row: SupportsIndex) -> int:
+    """Returns the number of a row."""
+    number = operator.index(row)
+    if not 0 <= number < 2**64:  # ctypes would cut it to 64 bits
+        raise IndexError(result_text(native.NOT_FOUND))
+    return number
 
 
 def volume_extract(volume: Buffer, row: SupportsIndex, *, copy: bool = True) -> bytes:
@@ -179,10 +187,27 @@ def volume_extract(volume: Buffer, row: SupportsIndex, *, copy: bool = True) -> 
     volume_tree(volume). A volume's row gives its canonical image, a file's row its data, and a section's row its body.
     Raises IndexError if there is no row with this number. If a volume in the part does not fit (NO_ROOM,
     TOP_ALIGNMENT), the depth of the fault counts only groups and opened volumes inside the part."""
-    number = operator.index(row)
-    if not 0 <= number < 2**64:  # ctypes would cut it to 64 bits
-        raise IndexError(result_text(native.NOT_FOUND))
-    return _over(volume, copy, _part, number)
+    return _over(volume, copy, _part, lib.fv_volume_extract, _number(row))
+
+
+def sections_tree(sections: Buffer, *, copy: bool = True) -> Sequence[Node]:
+    """Returns the whole tree of a stream of sections, in preorder: its sections and, in the same way, what is in groups
+    and volumes among them. A stream is what a compressed or GUID-defined section holds when it is opened. Its sections
+    have depth 0 and no parent. All offsets count from the first byte of the data, which must be exactly that stream."""
+    return _over(sections, copy, _rows, lib.fv_sections_tree, Nodes)
+
+
+def sections_tree_digests(sections: Buffer, *, copy: bool = True) -> Sequence[bytes | None]:
+    """Returns the SHA-256 digest for each row of sections_tree, in the same order. The digest covers the bytes that
+    sections_extract returns for the row. A section that holds sections or a volume has None."""
+    return _over(sections, copy, _rows, lib.fv_sections_tree_digests, Digests)
+
+
+def sections_extract(sections: Buffer, row: SupportsIndex, *, copy: bool = True) -> bytes:
+    """Returns the bytes of a part of a stream of sections in canonical form. `row` is the number of the part's row in
+    sections_tree(sections). A volume's row gives its canonical image, a file's row its data in that image, and a
+    section's row its body. Raises what volume_extract raises."""
+    return _over(sections, copy, _part, lib.fv_sections_extract, _number(row))
 
 
 def depex_evaluate(

@@ -65,6 +65,9 @@ CALLS: dict[str, tuple[Any, list[Any]]] = {
     "fv_volume_tree": (_u32, [_pointer, _size, _pointer, _size]),
     "fv_volume_tree_digests": (_u32, [_pointer, _size, _pointer, _size]),
     "fv_volume_extract": (_u32, [_pointer, _size, _size, _pointer, _size]),
+    "fv_sections_tree": (_u32, [_pointer, _size, _pointer, _size]),
+    "fv_sections_tree_digests": (_u32, [_pointer, _size, _pointer, _size]),
+    "fv_sections_extract": (_u32, [_pointer, _size, _size, _pointer, _size]),
     "fv_depex_evaluate": (_u32, [_pointer, _size, _u32, _pointer, _size]),
     "fv_hobs_read": (_u32, [_pointer, _size, _pointer, _size]),
 }

@@ -26,6 +26,8 @@ enum { MOST = 6, ROOM = 8, FILE_AT = 72, DATA_AT = 96, DATA_LEN = 44, LENGTH = 1
  *   1: a group of two sections, 2: type 19 with 5 bytes, and 3: a group of none
  *   4: type 19 with 3 bytes */
 static uint8_t volume[LENGTH], other[LENGTH];
+/* The sections, which are the data of the file, as a stream. */
+static uint8_t stream[DATA_LEN];
 #define NAME_BYTES {11, 12, 13, 14, 15, 16, 17, 18, 19, 20, 21, 22, 23, 24, 25, 26}
 static const uint8_t name[16] = NAME_BYTES;
 
@@ -66,6 +68,7 @@ static inline void make_both(void)
 {
     make(9);
     memcpy(other, volume, sizeof other);
+    memcpy(stream, volume + DATA_AT, sizeof stream);
 }
 
 /* The buffers and results that calls write to. Each result has room for a second element, so that a misaligned result
@@ -123,6 +126,9 @@ MAKES(volume_cells, P(0), N(0), P(1), N(1), P(2), P(3))
 MAKES(volume_tree, P(0), N(0), P(1), N(1), P(2), P(3))
 MAKES(volume_tree_digests, P(0), N(0), P(1), N(1), P(2), P(3))
 MAKES(volume_extract, P(0), N(0), N(1), P(2), N(2), P(3), P(4))
+MAKES(sections_tree, P(0), N(0), P(1), N(1), P(2), P(3))
+MAKES(sections_tree_digests, P(0), N(0), P(1), N(1), P(2), P(3))
+MAKES(sections_extract, P(0), N(0), N(1), P(2), N(2), P(3), P(4))
 MAKES(depex_evaluate, P(0), N(0), (uint32_t)N(1), P(2), N(2), P(3), P(4))
 MAKES(hobs_read, P(0), N(0), P(1), N(1), P(2), P(3), P(4))
 MAKES(guid_text, P(0), P(1), N(1))
@@ -152,6 +158,9 @@ static const struct call calls[] = {
     CALL(volume_tree, FAULT_TRUNCATED, IN(volume), ROWS(nodes), ONE(count), ITS_FAULT),
     CALL(volume_tree_digests, FAULT_TRUNCATED, IN(volume), ROWS(digests), ONE(count), ITS_FAULT),
     CALL(volume_extract, FAULT_TRUNCATED, IN(volume), VALUE(1), OUT(bytes), ONE(length), ITS_FAULT),
+    CALL(sections_tree, OK, IN(stream), ROWS(nodes), ONE(count), ITS_FAULT),
+    CALL(sections_tree_digests, OK, IN(stream), ROWS(digests), ONE(count), ITS_FAULT),
+    CALL(sections_extract, NOT_FOUND, IN(stream), VALUE(1), OUT(bytes), ONE(length), ITS_FAULT),
     CALL(depex_evaluate, FAULT_DEPEX_NO_END, IN(expression), VALUE(FV_PHASE_DXE), ELEMENTS(INPUT, guid, 1), ONE(number),
          ITS_FAULT),
     CALL(hobs_read, FAULT_HOB_NO_END, IN(list), ROWS(hobs), ONE(count), ONE(length), ITS_FAULT),

@@ -1,6 +1,6 @@
 /* SPDX-License-Identifier: BSD-2-Clause-Patent */
 /* Checks results that were worked out by hand, for the volume of calls.h: the rows of its tree, its parts and digests,
- * and a fault. Also checks the text of a GUID, and the text of each result. (The checks of tests/fuzz/libfv compare
+ * and a fault, and for the stream of sections in it. Also checks the text of a GUID, and the text of each result. (The checks of tests/fuzz/libfv compare
  * each field of each structure with the bytes of an input.) */
 #include "calls.h"
 
@@ -48,6 +48,43 @@ static void try_tree(void)
         EXPECT(*length == nodes[i].length && !memcmp(buffer.bytes, volume + nodes[i].offset, *length));
     }
     EXPECT(fv_volume_extract(volume, LENGTH, 7, buffer.bytes, LENGTH, length, fault) == FV_NOT_FOUND);
+}
+
+/* Checks the same of the stream of sections that are the data of the file. The rows are the last five rows of the
+ * volume: two less deep, with the parents numbered from the first of them, and counted from the first byte of the data. */
+static void try_stream(void)
+{
+    make_both();
+    begin("the rows of a stream");
+    EXPECT(fv_sections_tree(stream, DATA_LEN, buffer.nodes, 5, count, fault) == FV_OK && *count == 5);
+    for (int i = 0; i < 5; i++) {
+        fv_node wanted = nodes[i + 2];
+        wanted.offset -= DATA_AT;
+        wanted.depth -= 2;
+        wanted.parent = wanted.parent == 1 ? FV_NO_PARENT : wanted.parent - 2;
+        EXPECT(!memcmp(buffer.nodes + i, &wanted, sizeof wanted));
+    }
+    begin("the digests of a stream");
+    EXPECT(fv_sections_tree_digests(stream, DATA_LEN, buffer.digests, 5, count, fault) == FV_OK && *count == 5);
+    for (int i = 0; i < 5; i++) EXPECT(!memcmp(buffer.digests[i].bytes, digests[i + 2], sizeof digests[i + 2]));
+    begin("the parts of a stream");
+    for (size_t i = 0; i < 5; i++) {
+        EXPECT(fv_sections_extract(stream, DATA_LEN, i, buffer.bytes, DATA_LEN, length, fault) == FV_OK);
+        EXPECT(*length == nodes[i + 2].length && !memcmp(buffer.bytes, volume + nodes[i + 2].offset, *length));
+    }
+    EXPECT(fv_sections_extract(stream, DATA_LEN, 5, buffer.bytes, DATA_LEN, length, fault) == FV_NOT_FOUND);
+    begin("an empty stream");
+    EXPECT(fv_sections_tree(NULL, 0, NULL, 0, count, fault) == FV_OK && *count == 0);
+    begin("a stream whose group has a section that does not fit");
+    stream[20] = 40;
+    const fv_fault wanted = {20, FV_FAULT_SECTION_SIZE, 1, 0, 0};
+    EXPECT(fv_sections_tree(stream, DATA_LEN, buffer.nodes, 5, count, fault) == FV_FAULT_SECTION_SIZE);
+    EXPECT(!memcmp(fault, &wanted, sizeof wanted) && *count == 9 && buffer.bytes[0] == FILLED);
+    EXPECT(fv_sections_tree_digests(stream, DATA_LEN, buffer.digests, 5, count, fault) == FV_FAULT_SECTION_SIZE);
+    EXPECT(!memcmp(fault, &wanted, sizeof wanted) && *count == 9 && buffer.bytes[0] == FILLED);
+    EXPECT(fv_sections_extract(stream, DATA_LEN, 9, buffer.bytes, DATA_LEN, length, fault) == FV_FAULT_SECTION_SIZE);
+    EXPECT(!memcmp(fault, &wanted, sizeof wanted) && *length == 9 && buffer.bytes[0] == FILLED);
+    make_both();
 }
 
 /* Checks that a call rejects a volume whose group has a section that does not fit, and changes nothing else. */
@@ -103,6 +140,7 @@ int main(void)
 {
     make_both();
     try_tree();
+    try_stream();
     try_fault();
     try_guid();
     try_texts();

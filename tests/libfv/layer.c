@@ -30,6 +30,9 @@ static struct {
 #define PROVED_COPY(call)                                                                                              \
     PROVED(call, (const void *a, size_t b, void *c, size_t d, fv_fault *e), U(a), b, U(c), d, U(e))
 #define PROVED_ONE(call, result) PROVED(call, (const void *a, size_t b, result *c, fv_fault *d), U(a), b, U(c), U(d))
+#define PROVED_PART(call)                                                                                              \
+    PROVED(call, (const void *a, size_t b, size_t c, void *d, size_t e, size_t *f, fv_fault *g), U(a), b, c, U(d), e,  \
+           U(f), U(g))
 
 PROVED_ONE(header_read, fv_header)
 PROVED_ROWS(image_scan, fv_header)
@@ -45,8 +48,10 @@ PROVED(volume_compare,
 PROVED_ROWS(volume_cells, fv_cell)
 PROVED_ROWS(volume_tree, fv_node)
 PROVED_ROWS(volume_tree_digests, fv_sha256)
-PROVED(volume_extract, (const void *a, size_t b, size_t c, void *d, size_t e, size_t *f, fv_fault *g), U(a), b, c, U(d),
-       e, U(f), U(g))
+PROVED_PART(volume_extract)
+PROVED_ROWS(sections_tree, fv_node)
+PROVED_ROWS(sections_tree_digests, fv_sha256)
+PROVED_PART(sections_extract)
 PROVED(depex_evaluate, (const void *a, size_t b, uint32_t c, const fv_guid *d, size_t e, uint32_t *f, fv_fault *g),
        U(a), b, c, U(d), e, U(f), U(g))
 PROVED(hobs_read, (const void *a, size_t b, fv_hob *c, size_t d, size_t *e, size_t *f, fv_fault *g), U(a), b, U(c), d,

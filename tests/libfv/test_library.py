@@ -19,7 +19,7 @@ ARCHIVE = LIBRARY.with_name("libfv.a")
 CC, CXX = os.environ.get("CC", "cc"), os.environ.get("CXX", "c++")
 WARN = ["-O1", "-g", "-Wall", "-Wextra", "-Werror", "-pedantic", f"-I{ROOT / 'libfv/include'}"]
 SANITIZED = {"ASAN_OPTIONS": "detect_leaks=0:allocator_may_return_null=1", "UBSAN_OPTIONS": "halt_on_error=1"}
-PLANTS = range(1, 18)
+PLANTS = range(1, 21)
 LONG = 4_000_000  # bytes; longer made inputs are not shown to the examples
 
 

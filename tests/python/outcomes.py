@@ -12,11 +12,12 @@ from tests import making
 from tests.fuzz.cases import make_case
 
 Call = Callable[..., Any]
-# The calls whose only argument is a volume, or an image.
+# The calls whose only argument is a volume, a stream of sections, or an image.
 OF_VOLUME: tuple[Call, ...] = (
     *(fv.volume_is_canonical, fv.volume_normalise, fv.volume_unfix, fv.volume_digest, fv.volume_cells),
     *(fv.volume_tree, fv.volume_tree_digests),
 )
+OF_SECTIONS: tuple[Call, ...] = (fv.sections_tree, fv.sections_tree_digests)
 OF_IMAGE: tuple[Call, ...] = (fv.image_scan, fv.image_check, fv.image_normalise)
 
 
@@ -59,6 +60,13 @@ def made() -> dict[str, bytes]:
     found |= {f"input {number} of the fuzzer": make_case(7, number).data for number in range(60)}
     empty = rows.spelled("empty")
     return found | {"two volumes": bytes(64) + empty + bytes(8) + empty, "grouped": grouped(), "no bytes": b""}
+
+
+def streams(data: bytes) -> list[tuple[int, fv.Node]]:
+    """Returns the rows of a volume whose parts hold sections, and their numbers: files of types that hold sections, and
+    groups. There are none if the data are not a volume."""
+    nodes = outcome(fv.volume_tree, data)
+    return [] if isinstance(nodes, fv.Fault) else [it for it in enumerate(nodes) if it[1].content == fv.Content.SECTIONS]
 
 
 def volume_of(stream: bytes) -> bytes:

@@ -33,7 +33,7 @@ import rows
 from fv import _errors, _library, _native, names
 from tests.checks import ROOT, read
 from tests.frame import RoomCase, needs_library, needs_tool
-from tests.python.outcomes import OF_IMAGE, OF_VOLUME, Call, grouped, outcome, raised, volume_of
+from tests.python.outcomes import OF_IMAGE, OF_SECTIONS, OF_VOLUME, Call, grouped, outcome, raised, volume_of
 
 PACKAGE = Path(fv.__file__).parent
 HEADER = read(ROOT / "libfv/include/fv.h")
@@ -234,6 +234,9 @@ class Values(unittest.TestCase):
             (fv.depex_evaluate, (b"\x06\x08",), ValueError, (2, 2**32, 2**32 + 1, -1)),
             (fv.volume_extract, (VOLUME,), IndexError, (3, 2**64 + 2, 2**64, 2**64 - 1, -1)),
             (fv.volume_extract, (b"bad",), fv.FaultError, (9,)),
+            (fv.sections_extract, (b"\5\0\0\x19z",), TypeError, (1.0, "1", None)),
+            (fv.sections_extract, (b"\5\0\0\x19z",), IndexError, (1, 2**64, 2**64 - 1, -1)),
+            (fv.sections_extract, (b"bad",), fv.FaultError, (9,)),
         )
         for call, first, kind, wrong in cases:
             for value in wrong:
@@ -351,7 +354,7 @@ class Buffers(unittest.TestCase):
     """Each kind of buffer is read, and no buffer is changed."""
 
     def test_kinds(self) -> None:
-        calls: list[Call] = [*OF_VOLUME, *OF_IMAGE, fv.header_read]
+        calls: list[Call] = [*OF_VOLUME, *OF_SECTIONS, *OF_IMAGE, fv.header_read]
         wanted = [call(VOLUME) for call in calls]
         with tempfile.TemporaryFile() as file:
             file.write(VOLUME)

@@ -4,6 +4,7 @@ made inputs. The runs of tests/program/test_rows.py are made by the calls too (s
 then replaced by every other value. (The checks of tests/fuzz/libfv compare the rows of trees, cells and images with
 their bytes, and the calls with each other.)"""
 
+import dataclasses
 import hashlib
 import unittest
 import uuid
@@ -15,7 +16,7 @@ from tests.frame import needs_library
 from tests.fuzz.cases import make_case
 from tests.program.test_rows import Run, row_cases
 from tests.python import said
-from tests.python.outcomes import made, outcome, place
+from tests.python.outcomes import made, outcome, place, streams
 
 NO_ROOM, TOP_ALIGNMENT = 22, 23
 # The rows whose runs are about files and arguments, and the options of other runs that the program has by itself.
@@ -175,6 +176,67 @@ class Rows(unittest.TestCase):
         for name in REPLACED:
             with self.subTest(name):
                 self.assertEqual([it.hex() for it in replaced(rows.spelled(name)) if not agree(it)], [])
+
+
+@needs_library
+class Streams(unittest.TestCase):
+    """Streams of sections: the data of files, and the bodies of groups, as they are in volumes."""
+
+    def test_parts(self) -> None:
+        """The rows of a stream, their digests and their parts are those inside its file or group in the volume."""
+        tried = 0
+        for name, data in made().items():
+            for row, holder in streams(data):
+                tried += 1
+                with self.subTest(name, row=row):
+                    stream = data[holder.offset : holder.offset + holder.length]
+                    nodes = [*fv.sections_tree(stream)]
+                    moved = [
+                        dataclasses.replace(
+                            it,
+                            offset=it.offset + holder.offset,
+                            depth=it.depth + holder.depth + 1,
+                            parent=row if it.parent is None else it.parent + row + 1,
+                        )
+                        for it in nodes
+                    ]
+                    end = row + 1 + len(nodes)
+                    whole = fv.volume_tree(data)
+                    self.assertEqual(moved, [*whole][row + 1 : end])
+                    self.assertTrue(end == len(whole) or whole[end].depth <= holder.depth)
+                    self.assertRaises(IndexError, fv.sections_extract, stream, len(nodes))
+                    if isinstance(digests := outcome(fv.volume_tree_digests, data), fv.Fault):
+                        continue
+                    self.assertEqual([*fv.sections_tree_digests(stream)], [*digests][row + 1 : end])
+                    for number in range(len(nodes)):
+                        part = fv.volume_extract(data, row + 1 + number)
+                        self.assertEqual(fv.sections_extract(stream, number), part)
+        self.assertGreater(tried, 50)
+
+    def test_faults(self) -> None:
+        """Bytes that are no stream have the first fault of the specification's headers, at its place."""
+        raw, group = "05000019 7a 000000", "0c000003"
+        cases = (
+            ("05000019", (19, 0, 0)),  # a section of 5 bytes in 4 bytes
+            (f"{raw} 0300", (20, 8, 0)),  # 2 bytes where a section may begin
+            (f"{raw} {group} 09000019 00000000", (19, 12, 1)),  # a section in a group, which does not fit
+            ("03000019", (19, 0, 0)),  # a section that is shorter than its header
+        )
+        for digits, wanted in cases:
+            with self.subTest(digits):
+                stream = bytes.fromhex(digits)
+                self.assertEqual(place(fv.sections_tree, stream), wanted)
+                self.assertEqual(place(fv.sections_tree_digests, stream), wanted)
+                self.assertEqual(place(fv.sections_extract, stream, 0), wanted)
+        deep = b""
+        for level in range(9):
+            size = len(deep) + 4
+            deep = size.to_bytes(3, "little") + b"\3" + deep
+            wanted = (21, 4 * 8, 8)
+            found = place(fv.sections_tree, deep)
+            self.assertEqual(found if level == 8 else len(found), wanted if level == 8 else level + 1)
+        self.assertEqual(place(fv.sections_tree, bytes(fv.LENGTH_MAX + 1)), (8, fv.LENGTH_MAX, 0))
+        self.assertEqual([*fv.sections_tree(b"")], [])
 
 
 @needs_library

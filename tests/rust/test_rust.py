@@ -20,7 +20,7 @@ import rows
 from tests.checks import ROOT, read
 from tests.frame import LIBRARY, RoomCase, needs_library, needs_tool
 from tests.libfv.inputs import spelled
-from tests.python.outcomes import OF_IMAGE, OF_VOLUME, made, outcome, volume_of
+from tests.python.outcomes import OF_IMAGE, OF_SECTIONS, OF_VOLUME, made, outcome, streams, volume_of
 
 RUST = ROOT / "rust"
 # The longest input of the rows that is passed to the calls.
@@ -73,8 +73,12 @@ def requests() -> Iterator[Request]:
     """Yields the calls that are compared: each call with one argument over each input, and all others over inputs that
     they accept."""
     for data in {it: None for it in inputs() if len(it) <= MOST}:
-        for call in (*OF_VOLUME, *OF_IMAGE, fv.header_read, fv.hobs_read):
+        for call in (*OF_VOLUME, *OF_SECTIONS, *OF_IMAGE, fv.header_read, fv.hobs_read):
             yield call.__name__, (data,)
+        for _, node in streams(data)[:3]:
+            stream = data[node.offset : node.offset + node.length]
+            yield from ((call.__name__, (stream,)) for call in OF_SECTIONS)
+            yield from (("sections_extract", (stream, row)) for row in (0, 1, 2, 2**64 - 1))
         for phase in fv.Phase:
             yield from (("depex_evaluate", (data, phase, names)) for names in ([], [A], [B], [B, A]))
         nodes = outcome(fv.volume_tree, data)
@@ -119,7 +123,7 @@ def result_of(call: str, arguments: tuple[Any, ...]) -> str:
         return f"Err(Rejected({debug(error.fault)}))"
     except IndexError:
         return "Err(NoSuchRow)"
-    if call == "volume_tree_digests":
+    if call in ("volume_tree_digests", "sections_tree_digests"):
         rest = (f"Some(Digest({it.hex()}))" if it else "None" for it in found)
         return f"Ok([{', '.join(f'NodeDigest {{ digest: {it} }}' for it in rest)}])"
     if call == "depex_evaluate":

@@ -2,7 +2,10 @@ pub mod MemoryLaws
 pub mod TreeRows
 pub mod TreeParents
 pub mod TreeLoop
+pub mod RowBytes
+pub mod DeeperRows
 pub mod WalkRows
+pub mod SectionRows
 pub mod UnfixKinds
 pub mod HeaderLaws
 pub mod HeaderRows

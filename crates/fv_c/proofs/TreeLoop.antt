@@ -7,25 +7,25 @@
 --    invariant is true of the parts after it (`put_more`).
 -- 4. The first row of the tree holds the parts of the volume (`whole_holds`). If the rows of these parts are added, the
 --    rows are the tree of the volume (`tree_put`).
-use Rattle.std.proofs.Common.{◌≡◌, ◌∙◌, ℕ, ◌+◌, ◌-◌, List, [], ◌∷◌, ◌++◌, length, drop, Some, refl, sym}
-use Rattle.std.proofs.Common.{append-nil, append_assoc, arith, map, Global, Vec}
+use Rattle.std.proofs.Common.{◌≡◌, ◌∙◌, ℕ, ◌+◌, ◌-◌, List, [], ◌∷◌, ◌++◌, length, drop, Some, refl, subst, sym}
+use Rattle.std.proofs.Common.{append-nil, append_assoc, arith, length-append, map, take_all, ap, ◌≤◌, Global, Vec}
 use Rattle.std.specs.List.{AllByRecursion}
 use Rattle.std.specs.Prelude.{slice_get}
 use Rattle.std.proofs.Math.Seq.{drop-append_seam}
 use Rattle.fv_section.specs.Words.{up_to_4}
-use Rattle.fv_tree.specs.Words.{Accepted, BeginWithFiles, Meaning, Pairwise, file_form}
+use Rattle.fv_tree.specs.Words.{Accepted, AcceptedStream, BeginWithFiles, Meaning, Pairwise, SectionMeaning, file_form}
 use Rattle.fv_tree.specs.declared.volume_files.LocatedFile.{LocatedFile}
-use Rattle.fv_tree.proofs.Laws.{pairs_push}
 use Rattle.fv_rows.specs.Words.{PartNestsAt, NodeMeaning, VolumeNode, FileNode, SectionNode, TreeRow as Row, nesting_inside, parts_in, rows_inside, rows_of_nodes}
-use Rattle.fv_rows.proofs.Laws.{inside_rows, volume_rows}
-use Rattle.fv_c.specs.TreeParts.{NodeRow, with_parents}
-use Rattle.fv_c.specs.ReportedTree.{HasTreeRows, IsNodeIn, IsPartPlaced}
+use Rattle.fv_rows.proofs.Laws.{inside_rows, stream_rows, volume_rows}
+use Rattle.fv_c.specs.TreeParts.{NodeRow, no_parent, with_parents}
+use Rattle.fv_c.specs.ReportedTree.{HasTreeRows, IsNodeIn, IsPartPlaced, bytes_at, reported_node}
+use Rattle.fv_c.specs.ReportedSections.{HasSectionRows, IsStreamNodeIn, stream_node}
 use Rattle.fv_c.specs.declared.tree.FvNode.{FvNode}
 use Rattle.fv_c.specs.declared.tree.Holder.{Holder}
-use Rattle.fv_c.specs.inner.Trees.{AreAdded, AreRows, HasFileNumber, HoldsParts, RowHasFiles, depths_after, node_in, row_in, whole_node}
+use Rattle.fv_c.specs.inner.Trees.{AreAdded, HasFileNumber, HoldsParts, RowHasFiles, depths_after, node_in, row_in, whole_node}
 use Rattle.fv_canon.proofs.Laws.{pairs_more}
-use Rattle.fv_c.proofs.TreeParents.{depths_joined, later_parts, next_parent, parents_joined}
-use Rattle.fv_c.proofs.TreeRows.{BeginsAt, all_bytes, begins_next, contents, first_item, get_later, lies_in, whole_found}
+use Rattle.fv_c.proofs.TreeParents.{later_parts, next_parent, parents_joined}
+use Rattle.fv_c.proofs.TreeRows.{BeginsAt, all_bytes, begins_next, contents, first_item, get_later, get_map, lies_in, tree_contents, whole_found}
 
 -- ---- more rows
 
@@ -36,11 +36,22 @@ placed_later input rows more row (VolumeNode m) (accepted, root, inner) =
 placed_later input rows more row (FileNode f) (holder, at, file) = (holder, get_later rows more row.parent holder at, file)
 placed_later input rows more row (SectionNode s) (holder, at, section) = (holder, get_later rows more row.parent holder at, section)
 
-node_later : (input : List ℕ) (rows more : List FvNode) (row : FvNode) (r : NodeRow) → IsNodeIn input rows row r
-    → IsNodeIn input (rows ++ more) row r
-node_later input rows more row r h = record { is = h.is; within = h.within; placed = placed_later input rows more row r.node h.placed }
+node_later : (input : List ℕ) (rows more : List FvNode) (row : FvNode) (r : NodeRow) → IsStreamNodeIn input rows row r
+    → IsStreamNodeIn input (rows ++ more) row r
+node_later input rows more row r h = record {
+  is = h.is;
+  within = h.within;
+  outer = h.outer;
+  inner = λ ne. placed_later input rows more row r.node (h.inner ne);
+}
 
 -- ---- rows that are added
+
+-- the report of a row has its depth
+depth_is : (offset stored : ℕ) (r : NodeRow) (node : NodeMeaning) → (reported_node offset stored r node).depth ≡ r.depth
+depth_is offset stored r (VolumeNode m) = refl
+depth_is offset stored r (FileNode f) = refl
+depth_is offset stored r (SectionNode s) = refl
 
 -- each row adds one depth to the depths of the rows before it
 rows_long : (R : FvNode → NodeRow → Type 0) (rows : List FvNode) (walked : List Row) (before : List ℕ)
@@ -49,34 +60,62 @@ rows_long R [] [] before are = omega arith
 rows_long R (x ∷ rows) (r ∷ walked) before are = omega (arith, rows_long R rows walked (r.depth ∷ before) are.1)
 rows_long R _ _ before are = absurd are
 
+pairs_join : {A B : Type 0} (R : A → B → Type 0) (xs xs' : List A) (ys ys' : List B) → Pairwise R xs ys → Pairwise R xs' ys'
+    → Pairwise R (xs ++ xs') (ys ++ ys')
+pairs_join R [] xs' [] ys' p q = q
+pairs_join R (x ∷ xs) xs' (y ∷ ys) ys' p q = (p.0, pairs_join R xs xs' ys ys' p.1 q)
+pairs_join R _ xs' _ ys' p q = absurd p
+
+all_join : {A : Type 0} (P Q : A → Type 0) → ((x : A) → Q x → P x) → (xs ys : List A) → AllByRecursion Q xs → AllByRecursion P ys
+    → AllByRecursion P (xs ++ ys)
+all_join P Q weaker [] ys p q = q
+all_join P Q weaker (x ∷ xs) ys p q = (weaker x p.0, all_join P Q weaker xs ys p.1 q)
+
 -- if there is no part, no row is added
 pub none_added : (input : List ℕ) (parent depth number : ℕ) (rows : List FvNode) → AreAdded input parent depth number [] rows rows
 none_added input parent depth number rows =
-    record { more = []; joined = sym (append-nil rows); rows = λ nesting walked are is. rw append-nil are }
+    record { more = []; joined = sym (append-nil rows); deep = tt; rows = λ nesting before many is. tt }
 
 -- the rows of a part and of the parts after it are added, if the row of the part, the rows inside the part, and the
 -- rows of the parts after it are added
 part_added : {input : List ℕ} {parent depth number : ℕ} {node : NodeMeaning} {left : List NodeMeaning} {row : FvNode} {rows news new : List FvNode}
-    → IsNodeIn input rows row (record { parent = parent; depth = depth; number = number; node = node })
+    → IsStreamNodeIn input rows row (record { parent = parent; depth = depth; number = number; node = node }) → row.depth ≡ depth
     → AreAdded input (length rows) (depth + 1) 0 (parts_in node) (rows ++ row ∷ []) news
     → AreAdded input parent depth (number + 1) left news new → AreAdded input parent depth number (node ∷ left) rows new
-part_added {input} {parent} {depth} {number} {node} {left} {row} {rows} {news} {new} own x y = record {
-  more = row ∷ x.more ++ y.more;
+part_added {input} {parent} {depth} {number} {node} {left} {row} {rows} {news} {new} own flat x y = record {
+  more = row ∷ (x.more ++ y.more);
   joined = rw (y.joined, x.joined) (simp append_assoc);
-  rows = λ nesting walked are is.
-      let r : Row = record { depth = depth; nesting = nesting; number = number; node = node } in
-      let before = depths_after walked [] in
-      let depths : depths_after (walked ++ r ∷ []) [] ≡ depth ∷ before = depths_joined [] walked (r ∷ []) in
+  deep = (
+    omega (arith, flat),
+    all_join (λ (r : FvNode). depth ≤ r.depth) (λ (r : FvNode). depth + 1 ≤ r.depth) (λ r more. omega (arith, more)) x.more y.more x.deep y.deep,
+  );
+  rows = λ nesting before many is.
       let inside : List Row = rows_of_nodes (depth + 1) (nesting_inside nesting node) 0 (parts_in node) in
-      let later = node_later input rows (row ∷ []) in
-      let here : AreRows input (walked ++ r ∷ []) (rows ++ row ∷ []) = rw (parents_joined [] walked (r ∷ []), is)
-      (pairs_push (IsNodeIn input (rows ++ row ∷ [])) rows (with_parents [] walked) row _
-      (pairs_more (IsNodeIn input rows) (IsNodeIn input (rows ++ row ∷ [])) later rows (with_parents [] walked) are) (later row _ own)) in
-      let within = x.rows (nesting_inside nesting node) (walked ++ r ∷ []) here
-      (rw depths (omega (arith, next_parent depth before, rows_long (IsNodeIn input rows) rows walked [] are))) in
-      let all = y.rows nesting ((walked ++ r ∷ []) ++ inside) within
-      (rw (depths_joined [] (walked ++ r ∷ []) inside, depths) (later_parts depth (nesting_inside nesting node) before (parts_in node) ∙ is)) in
-      rw inside_rows (simp append_assoc at all);
+      let rest : List Row = rows_of_nodes depth nesting (number + 1) left in
+      let after : List ℕ = depths_after inside (depth ∷ before) in
+      let long : length (rows ++ row ∷ []) ≡ length rows + 1 = omega (arith, length-append rows (row ∷ [])) in
+      let within = x.rows (nesting_inside nesting node) (depth ∷ before) (omega (arith, many, long)) (next_parent depth before ∙ many) in
+      let behind = y.rows nesting after (omega (
+        arith,
+        rows_long (IsStreamNodeIn input news) x.more inside (depth ∷ before) within,
+        many,
+        ap length x.joined,
+        length-append (rows ++ row ∷ []) x.more,
+        long,
+      )) (later_parts depth (nesting_inside nesting node) before (parts_in node) ∙ is) in
+      let is_new : new ≡ rows ++ (row ∷ (x.more ++ y.more)) = rw (y.joined, x.joined) (simp append_assoc) in
+      let here : IsStreamNodeIn input new row _ = rw is_new (node_later input rows (row ∷ (x.more ++ y.more)) row _ own) in
+      let inner : Pairwise (IsStreamNodeIn input new) x.more (with_parents (depth ∷ before) inside) = rw y.joined
+      (pairs_more (IsStreamNodeIn input news) (IsStreamNodeIn input (news ++ y.more)) (node_later input news y.more) x.more _ within) in
+      let joined : with_parents (depth ∷ before) (rows_inside (depth + 1) (nesting_inside nesting node) node ++ rest)
+      ≡ with_parents (depth ∷ before) inside ++ with_parents after rest =
+      ap (λ (l : List Row). with_parents (depth ∷ before) (l ++ rest)) (inside_rows (depth + 1) (nesting_inside nesting node) node)
+      ∙ parents_joined (depth ∷ before) inside rest in
+      rw is (
+        here,
+        subst (λ (rs : List NodeRow). Pairwise (IsStreamNodeIn input new) (x.more ++ y.more) rs) (sym joined)
+            (pairs_join (IsStreamNodeIn input new) x.more y.more _ _ inner behind),
+      );
 }
 
 -- ---- the loop
@@ -99,11 +138,11 @@ module _ {input : List ℕ} {holder : Holder} {nodes : List NodeMeaning} {old ro
   item = first_item nodes left number node p.left_is
 
   -- if the part is a file, the holder stores this file. `node_in` returns a row that reports the part
-  pub part_lies : HasFileNumber holder number node × IsNodeIn input rows (node_in holder number next node) (row_in holder number node)
+  pub part_lies : HasFileNumber holder number node × IsStreamNodeIn input rows (node_in holder number next node) (row_in holder number node)
   part_lies = lies_in p.held.2 number next p.begins p.held.1 node item.0
 
   module _ (row : FvNode) (is : row ≡ node_in holder number next node) where
-    pub row_found : IsNodeIn input rows row (row_in holder number node)
+    pub row_found : IsStreamNodeIn input rows row (row_in holder number node)
     row_found = rw is part_lies.1
 
     -- after the row is added, it holds the parts in its part
@@ -111,23 +150,51 @@ module _ {input : List ℕ} {holder : Holder} {nodes : List NodeMeaning} {old ro
         (record { row = length rows; depth = holder.depth + 1; offset = row.offset; files = files }) (parts_in node)
     part_holds files are = (
       row,
-      (first_item (rows ++ row ∷ []) [] (length rows) row (drop-append_seam rows (row ∷ []))).0,
-      record { bytes = p.held.2.bytes; inner = omega arith; within = row_found.within; contents = contents row_found; offset = refl; files = are },
+      record {
+        outer = λ none. absurd (omega (arith, none));
+        inner = λ _. (first_item (rows ++ row ∷ []) [] (length rows) row (drop-append_seam rows (row ∷ []))).0;
+      },
+      record {
+        bytes = p.held.2.bytes;
+        within = row_found.within;
+        contents = contents row_found;
+        offset = refl;
+        files = are;
+      },
     )
 
     -- the invariant after the row of the next part, and the rows in this part, are added
     pub put_more : (news : List FvNode) → AreAdded input (length rows) (holder.depth + 1) 0 (parts_in node) (rows ++ row ∷ []) news
         → Putting input holder nodes old left (number + 1) (up_to_4 (row.offset - holder.offset + row.length)) news
     put_more news x =
+        let flat : row.depth ≡ holder.depth = ap (λ (r : FvNode). r.depth) row_found.is ∙ depth_is _ _ (row_in holder number node) node in
         rw (x.joined, append_assoc) (record {
           left_is = item.1;
-          held = (p.held.0, get_later rows (row ∷ x.more) holder.row p.held.0 p.held.1, p.held.2);
+          held = (
+            p.held.0,
+            record {
+              outer = p.held.1.outer;
+              inner = λ ne. get_later rows (row ∷ x.more) holder.row p.held.0 (p.held.1.inner ne);
+            },
+            p.held.2,
+          );
           begins = rw is (begins_next p.held.2 number next p.begins node item.0);
           nests = p.nests.1;
-          added = λ new y. p.added new (part_added row_found x (rw (x.joined, append_assoc) y));
+          added = λ new y. p.added new (part_added row_found flat x (rw (x.joined, append_assoc) y));
         })
 
 -- ---- the whole volume
+
+-- a row of a tree that is not of depth 0 is a row as in a stream
+inner_row : (input : List ℕ) (rows : List FvNode) (row : FvNode) (r : NodeRow) → 1 ≤ row.depth → IsStreamNodeIn input rows row r
+    → IsNodeIn input rows row r
+inner_row input rows row r deep own = record { is = own.is; within = own.within; placed = own.inner (λ none. omega (arith, deep, none)) }
+
+inner_rows : (input : List ℕ) (rows more : List FvNode) (rs : List NodeRow) → AllByRecursion (λ (row : FvNode). 1 ≤ row.depth) more
+    → Pairwise (IsStreamNodeIn input rows) more rs → Pairwise (IsNodeIn input rows) more rs
+inner_rows input rows [] [] deep are = tt
+inner_rows input rows (row ∷ more) (r ∷ rs) deep are = (inner_row input rows row r deep.0 are.0, inner_rows input rows more rs deep.1 are.1)
+inner_rows input rows _ _ deep are = absurd are
 
 module _ (input : List ℕ) (m : Meaning) (accepted : Accepted input m) where
   -- the first row holds the parts of the volume
@@ -135,14 +202,59 @@ module _ (input : List ℕ) (m : Meaning) (accepted : Accepted input m) where
       → HoldsParts input (whole_node m ∷ []) (record { row = 0; depth = 1; offset = 0; files = files }) (parts_in (VolumeNode m))
   whole_holds files begin =
       let own = whole_found input m accepted [] in
-      let same = all_bytes input m accepted in
-      (whole_node m, refl, record { bytes = accepted.0; inner = omega arith; within = own.within; contents = contents own; offset = refl; files = λ _. rw same begin })
+      let same = all_bytes input m accepted in (
+        whole_node m,
+        record { outer = λ none. absurd (omega (arith, none)); inner = λ _. refl },
+        record {
+          bytes = accepted.0;
+          within = own.within;
+          contents = tree_contents own;
+          offset = refl;
+          files = λ _. rw same begin;
+        },
+      )
 
   -- if the rows of these parts are added to the first row, the rows are the tree of the volume
   pub tree_put : (rows : List FvNode) → AreAdded input 0 1 0 (parts_in (VolumeNode m)) (whole_node m ∷ []) rows → HasTreeRows input rows
-  tree_put rows added = record {
-    meaning = m;
-    volume = accepted;
-    nodes = rw (volume_rows 0 0 m, append-nil (rows_inside 1 0 (VolumeNode m)), inside_rows 1 0 (VolumeNode m))
-        (added.rows 0 (record { depth = 0; nesting = 0; number = 0; node = VolumeNode m } ∷ []) (whole_found input m accepted _, tt) (next_parent 0 []));
+  tree_put rows added =
+      let inside = inner_rows input rows added.more _ added.deep (added.rows 0 (0 ∷ []) refl (next_parent 0 [])) in
+      record {
+        meaning = m;
+        volume = accepted;
+        nodes = rw (volume_rows 0 0 m, append-nil (rows_inside 1 0 (VolumeNode m)), inside_rows 1 0 (VolumeNode m))
+            (rw added.joined (whole_found input m accepted _, rw added.joined at inside));
+      }
+
+-- ---- a whole stream
+
+module _ (input : List ℕ) (ss : List SectionMeaning) (tail : ℕ) (accepted : AcceptedStream ss tail input) where
+  stream_bytes : bytes_at input (stream_node input) ≡ input
+  stream_bytes = take_all (length input) input (omega arith)
+
+  -- the whole input holds the sections of the stream
+  pub stream_holds : (files : Vec LocatedFile Global)
+      → HoldsParts input [] (record { row = no_parent; depth = 0; offset = 0; files = files }) (map SectionNode ss)
+  stream_holds files = (
+    stream_node input,
+    record { outer = λ _. refl; inner = λ ne. absurd (ne refl) },
+    record {
+      bytes = accepted.bytes;
+      within = omega arith;
+      contents = record {
+        volume = λ none. absurd (omega (arith, none));
+        none = λ one. absurd (omega (arith, one));
+        part = λ i node is. let (s, at, same) = get_map SectionNode ss i node is in rw same (refl, ss, tail, rw stream_bytes accepted.stream, at);
+      };
+      offset = refl;
+      files = λ none. absurd (omega (arith, none));
+    },
+  )
+
+  -- if the rows of these sections are added to no row, the rows are those of the stream
+  pub stream_put : (rows : List FvNode) → AreAdded input no_parent 0 0 (map SectionNode ss) [] rows → HasSectionRows input rows
+  stream_put rows added = record {
+    sections = ss;
+    tail = tail;
+    stream = accepted;
+    nodes = rw (stream_rows ss) (rw added.joined (rw added.joined at (added.rows 0 [] refl refl)));
   }

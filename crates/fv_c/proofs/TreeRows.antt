@@ -3,7 +3,7 @@
 -- 1. A frame of a stream begins at the next multiple of 4 after the frame before it (`next_begins`).
 -- 2. Part number i in a row is a file of a volume, a section of a stream, or the volume of a section (`contents`).
 -- 3. The body of a frame lies in the stream (`frame_in_stream`). Bytes that lie in a part lie in the input (`part_of`).
-use Rattle.std.proofs.Common.{◌≡◌, ◌∙◌, ℕ, zero, suc, ◌+◌, ◌-◌, ◌≤◌, List, [], ◌∷◌, ◌++◌, length, take, drop, Some, refl, sym, ap, subst, arith}
+use Rattle.std.proofs.Common.{◌≡◌, ◌∙◌, ℕ, zero, suc, ◌+◌, ◌-◌, ◌≤◌, List, [], ◌∷◌, ◌++◌, length, take, drop, Some, refl, sym, ap, subst, arith, inl, inr}
 use Rattle.std.proofs.lemmas.Grind.{common_steps}
 use Rattle.std.proofs.lemmas.Option.{get_or_from_slice_get, gets, slice_get-map, slice_get_within}
 use Rattle.std.specs.Prelude.{slice_get, map}
@@ -11,7 +11,7 @@ use Rattle.std.specs.List.{AllByRecursion}
 use Rattle.std.proofs.lemmas.List.{drop_more, length-drop, length-take-le, take_all}
 use Rattle.std.proofs.Math.Seq.{take-append_seam, drop-append_seam}
 use Rattle.fv_base.specs.Words.{field, depth_limit}
-use Rattle.fv_base.proofs.Laws.{at_index, bytes_drop, bytes_take, field-take}
+use Rattle.fv_base.proofs.Laws.{at_index, bytes_drop, bytes_take, cases_lt, field-take}
 use Rattle.fv_section.specs.Words.{FrameForm, HasFrameAt, Splits, SplitsFrom, frame_len, section_header_len, up_to_4}
 use Rattle.fv_section.proofs.Laws.{one_split, split_stands, stands_within}
 use Rattle.fv_tree.specs.Words.{Accepted, BeginWithFiles, FileForm, File, Meaning, Volume, MeansFile, MeansSection}
@@ -19,11 +19,12 @@ use Rattle.fv_tree.specs.Words.{Pairwise, Plain, Sectioned, SectionMeaning, Sect
 use Rattle.fv_tree.specs.Words.{body_len, body_of, body_place, data_place, file_form, files_of, length_of, sections_list}
 use Rattle.fv_tree.proofs.Laws.{begun_data, body_long, content_long, one_files, volume_files}
 use Rattle.fv_rows.specs.Words.{NodeMeaning, VolumeNode, FileNode, SectionNode, parts_in}
-use Rattle.fv_c.specs.ReportedTree.{IsNodeIn, IsPartPlaced, bytes_at, reported_node}
+use Rattle.fv_c.specs.ReportedTree.{IsFileIn, IsNodeIn, IsPartPlaced, IsSectionIn, bytes_at, reported_node}
+use Rattle.fv_c.specs.ReportedSections.{IsStreamNodeIn, stream_node}
 use Rattle.fv_c.specs.TreeParts.{NodeRow}
 use Rattle.fv_c.specs.declared.tree.FvNode.{FvNode}
 use Rattle.fv_c.specs.declared.tree.Holder.{Holder}
-use Rattle.fv_c.specs.inner.Trees.{Contents, HasFileNumber, HoldsIn, node_in, row_in, whole_node, whole_row}
+use Rattle.fv_c.specs.inner.Trees.{Contents, HasFileNumber, HoldsIn, IsHolder, node_in, row_in, whole_node, whole_row}
 use Rattle.fv_canon.proofs.Laws.{accepted, sections_more, stream_more}
 
 -- ---- lists
@@ -40,7 +41,7 @@ first_item xs ys i x is =
 pub get_later : {X : Type 0} (xs ys : List X) (i : ℕ) (x : X) → slice_get xs i ≡ Some x → slice_get (xs ++ ys) i ≡ Some x
 get_later xs ys i x is = grind (arith, common_steps, gets)
 
-get_map : {A B : Type 0} (g : A → B) (xs : List A) (i : ℕ) (y : B) → slice_get (map g xs) i ≡ Some y
+pub get_map : {A B : Type 0} (g : A → B) (xs : List A) (i : ℕ) (y : B) → slice_get (map g xs) i ≡ Some y
     → (x : A) × (slice_get xs i ≡ Some x) × (y ≡ g x)
 get_map g xs i y is = grind (arith, common_steps, gets, slice_get-map)
 
@@ -75,7 +76,28 @@ next_begins at _ tail i b f g split is next = cc
 
 -- ---- what a row holds
 
-module _ {input : List ℕ} {rows : List FvNode} {row : FvNode} {r : NodeRow} (own : IsNodeIn input rows row r) where
+-- the bytes of the row are the part: a volume, the data of a file, or the body of a section
+abbrev pub Lies : (input : List ℕ) (row : FvNode) → NodeMeaning → Type 0
+Lies input row (VolumeNode m) = Accepted (bytes_at input row) m
+Lies input row (FileNode f) = (holder : FvNode) × IsFileIn input holder row f
+Lies input row (SectionNode s) = (holder : FvNode) × IsSectionIn input holder row s
+
+placed_lies : (input : List ℕ) (rows : List FvNode) (row : FvNode) (node : NodeMeaning) → IsPartPlaced input rows row node → Lies input row node
+placed_lies input rows row (VolumeNode m) placed = placed.0
+placed_lies input rows row (FileNode f) (holder, at, file) = (holder, file)
+placed_lies input rows row (SectionNode s) (holder, at, section) = (holder, section)
+
+-- the row of a part in a tree, and the row of a part in a stream, describe the bytes of the part
+tree_lies : {input : List ℕ} {rows : List FvNode} {row : FvNode} {r : NodeRow} → IsNodeIn input rows row r → Lies input row r.node
+tree_lies {input} {rows} {row} {r} own = placed_lies input rows row r.node own.placed
+
+pub stream_lies : {input : List ℕ} {rows : List FvNode} {row : FvNode} {r : NodeRow} → IsStreamNodeIn input rows row r → Lies input row r.node
+stream_lies {input} {rows} {row} {r} own = elim (cases_lt 0 row.depth) [
+  | inl deep ↦ placed_lies input rows row r.node (own.inner (λ none. omega (arith, deep, none)))
+  | inr flat ↦ let (s, is, section) = own.outer (omega (arith, flat)) in rw is (stream_node input, section)
+]
+
+module _ {input : List ℕ} {row : FvNode} where
   no_parts : row.content ≡ 1 → Contents input row []
   no_parts k = record { volume = λ e. absurd (omega (arith, k, e)); none = λ _. refl; part = λ i node is. cc }
 
@@ -88,26 +110,36 @@ module _ {input : List ℕ} {rows : List FvNode} {row : FvNode} {r : NodeRow} (o
   }
 
   -- a row holds the parts in its part
-  pub contents : Contents input row (parts_in r.node)
-  contents = go r.node (ap (λ (x : FvNode). x.content) own.is) (ap (λ (x : FvNode). x.length) own.is) own.placed where
+  contents_of : (r : NodeRow) → row ≡ reported_node row.offset row.header_length r r.node → Lies input row r.node
+      → Contents input row (parts_in r.node)
+  contents_of r is lies = go r.node (ap (λ (x : FvNode). x.content) is) (ap (λ (x : FvNode). x.length) is) lies where
     go : (node : NodeMeaning) → row.content ≡ (reported_node row.offset row.header_length r node).content
-        → row.length ≡ (reported_node row.offset row.header_length r node).length → IsPartPlaced input rows row node → Contents input row (parts_in node)
-    go (VolumeNode m) k long placed = record {
-      volume = λ _. (m, placed.0);
+        → row.length ≡ (reported_node row.offset row.header_length r node).length → Lies input row node → Contents input row (parts_in node)
+    go (VolumeNode m) k long accepted = record {
+      volume = λ _. (m, accepted);
       none = λ e. absurd (omega (arith, k, e));
-      part = λ i node is. let (f, at, same) = get_map FileNode (files_of m) i node is in rw same (k, m, placed.0, at);
+      part = λ i node is. let (f, at, same) = get_map FileNode (files_of m) i node is in rw same (k, m, accepted, at);
     }
-    go (FileNode (File name kind attributes (Plain b))) k long placed = no_parts k
-    go (FileNode (File name kind attributes (Sectioned ss tail))) k long (holder, at, file) = sections ss tail k (rw file.payload file.means.3.1)
-    go (SectionNode (Section kind extended (Leaf b))) k long placed = no_parts k
-    go (SectionNode (Section kind extended (Group ss tail))) k long (holder, at, section) =
+    go (FileNode (File name kind attributes (Plain b))) k long at = no_parts k
+    go (FileNode (File name kind attributes (Sectioned ss tail))) k long (holder, file) = sections ss tail k (rw file.payload file.means.3.1)
+    go (SectionNode (Section kind extended (Leaf b))) k long at = no_parts k
+    go (SectionNode (Section kind extended (Group ss tail))) k long (holder, section) =
         sections ss tail k (rw section.body (stream_more (MeansSection 7) (MeansSection 8) (sections_more 7) (sections_list ss) tail section.frame.body section.means.2.1))
-    go (SectionNode (Section kind extended (Nested m))) k long (holder, at, section) = record {
+    go (SectionNode (Section kind extended (Nested m))) k long (holder, section) = record {
       volume = λ e. absurd (omega (arith, k, e));
       none = λ e. absurd (omega (arith, k, e));
       part = λ i node is. rw (← only_item (VolumeNode m) node i is)
           (k, long, λ bytes. accepted 7 (bytes_at input row) m bytes (omega arith) (rw section.body section.means.2.2));
     }
+
+-- so the row of a part in a tree, and the row of a part in a stream, hold the parts in its part
+pub tree_contents : {input : List ℕ} {rows : List FvNode} {row : FvNode} {r : NodeRow} → IsNodeIn input rows row r
+    → Contents input row (parts_in r.node)
+tree_contents {input} {rows} {row} {r} own = contents_of r own.is (tree_lies own)
+
+pub contents : {input : List ℕ} {rows : List FvNode} {row : FvNode} {r : NodeRow} → IsStreamNodeIn input rows row r
+    → Contents input row (parts_in r.node)
+contents {input} {rows} {row} {r} own = contents_of r own.is (stream_lies own)
 
 -- ---- where a part lies
 
@@ -154,19 +186,25 @@ module _ {input : List ℕ} {holder : Holder} {nodes : List NodeMeaning} {row : 
   abbrev b : List ℕ
   b = bytes_at input row
 
+  -- parts of depth 0 are sections
+  only_sections : {rows : List FvNode} → IsHolder input rows holder row → (content : ℕ) → row.content ≡ content → (content ≡ 2 → ⊥)
+      → holder.depth ≡ 0 → ⊥
+  only_sections at content k other none = other (sym k ∙ ap (λ (x : FvNode). x.content) (at.outer none))
+
   -- if part number i is a file, the holder stores this file. The row `node_in` says where the part lies
-  pub lies_in : {rows : List FvNode} → slice_get rows holder.row ≡ Some row → (node : NodeMeaning) → slice_get nodes i ≡ Some node
-      → HasFileNumber holder i node × IsNodeIn input rows (node_in holder i next node) (row_in holder i node)
+  pub lies_in : {rows : List FvNode} → IsHolder input rows holder row → (node : NodeMeaning) → slice_get nodes i ≡ Some node
+      → HasFileNumber holder i node × IsStreamNodeIn input rows (node_in holder i next node) (row_in holder i node)
   lies_in at (VolumeNode m) is =
       let (k, long, means) = holds.contents.part i (VolumeNode m) is in (
         tt,
         record {
           is = refl;
           within = omega (arith, holds.within, holds.offset, long);
-          placed = (
+          outer = λ none. absurd (only_sections at 3 k (λ e. omega (arith, e)) none);
+          inner = λ ne. (
             rw (holds.offset, long) at (means (bytes_take row.length (drop row.offset input) (bytes_drop row.offset input holds.bytes))),
-            λ none. absurd (omega (arith, none, holds.inner)),
-            λ _. (row, at, sym holds.offset),
+            λ none. absurd (ne none),
+            λ _. (row, at.inner ne, sym holds.offset),
           );
         },
       )
@@ -188,9 +226,10 @@ module _ {input : List ℕ} {holder : Holder} {nodes : List NodeMeaning} {row : 
         rw (at_file, ← holds.offset) (record {
           is = refl;
           within = omega (arith, lies.0, long);
-          placed = (
+          outer = λ none. absurd (only_sections at 0 k (λ e. omega (arith, e)) none);
+          inner = λ ne. (
             row,
-            at,
+            at.inner ne,
             record {
               files = forms;
               volume = begun;
@@ -213,13 +252,9 @@ module _ {input : List ℕ} {holder : Holder} {nodes : List NodeMeaning} {row : 
       let place : holder.offset + (next + section_header_len (section_is_extended s)) ≡ row.offset + body_place f =
       omega (arith, holds.offset, begins k frames tail f split at_frame, ap section_header_len form) in (
         tt,
-        rw place (record {
-          is = refl;
-          within = omega (arith, lies.0, long);
-          placed = (
-            row,
-            at,
-            record {
+        rw place (
+            let own : FvNode = reported_node (row.offset + body_place f) 0 (row_in holder i (SectionNode s)) (SectionNode s) in
+            let section : IsSectionIn input row own s = record {
               frames = frames;
               tail = tail;
               stream = split;
@@ -228,9 +263,14 @@ module _ {input : List ℕ} {holder : Holder} {nodes : List NodeMeaning} {row : 
               offset = refl;
               body = rw (← long) lies.1;
               means = means;
-            },
-          );
-        }),
+            } in
+            record {
+              is = refl;
+              within = omega (arith, lies.0, long);
+              outer = λ none. (s, refl, subst (λ (h : FvNode). IsSectionIn input h own s) (at.outer none) section);
+              inner = λ ne. (row, at.inner ne, section);
+            }
+            ),
       )
 
   -- the next section begins at the next multiple of 4 after the part

@@ -10,4 +10,5 @@ pub mod TreeParts
 pub mod ReportedTree
 pub mod ReportedDigests
 pub mod ExtractedParts
+pub mod ReportedSections
 pub mod inner

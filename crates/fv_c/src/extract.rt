@@ -99,7 +99,7 @@ fn put_body(
 
 // Writes a part to the start of the buffer. If the buffer is shorter than the part, returns 256 and
 // leaves it unchanged. `len` is the length of the part.
-fn put_part(
+pub(crate) fn put_part(
     alloc: Global,
     part: Part<'_, '_>,
     buffer: &mut [u8],

@@ -1,12 +1,13 @@
 //! Laws over the definitions of this crate.
 
-ghost use Rattle.std.specs.Prelude.{◌≡◌, [], ◌∷◌, ℕ, List, Some, slice_get};
+ghost use Rattle.std.specs.Prelude.{◌≡◌, [], ◌∷◌, ℕ, List, Some, map, slice_get};
 ghost use Rattle.std.specs.List.{filter};
-ghost use Rattle.fv_tree.specs.Words.{FileMeaning, Meaning, SectionMeaning};
+ghost use Rattle.fv_tree.specs.Words.{FileMeaning, Meaning, SectionMeaning, SectionMeanings, Sectioned};
 ghost use Rattle.fv_tree.specs.Words.{Accepted, plain_of, content_of, leaf_of, body_of};
-ghost use Rattle.fv_rows.specs.Words.{VolumeNode, FileNode, SectionNode};
+ghost use Rattle.fv_rows.specs.Words.{VolumeNode, FileNode, SectionNode, rows_in_content, rows_of_sections};
 ghost use Rattle.fv_c.specs.TreeParts.{NodeRow, is_first, is_held_by, no_parent, node_rows, rows_held, rows_of_parts};
 ghost use Rattle.fv_c.specs.ReportedTree.{IsNodeIn, bytes_at};
+ghost use Rattle.fv_c.specs.ReportedSections.{IsStreamNodeIn, deeper_row};
 ghost use Rattle.fv_c.specs.declared.tree.FvNode.{FvNode};
 
 /// States which rows `fvp_volume_tree` writes for the parts of each part. The volume itself is the
@@ -32,4 +33,22 @@ pub fn rows_have_their_bytes()
         → IsNodeIn input rows row r → r.node ≡ FileNode f → plain_of (content_of f) ≡ Some b → bytes_at input row ≡ b }
     ensures section { (input : List ℕ) (rows : List FvNode) (row : FvNode) (r : NodeRow) (s : SectionMeaning) (b : List ℕ)
         → IsNodeIn input rows row r → r.node ≡ SectionNode s → leaf_of (body_of s) ≡ Some b → bytes_at input row ≡ b }
+{}
+
+/// States the same of the rows that `fvp_sections_tree` writes.
+pub fn stream_rows_have_their_bytes()
+    ensures volume { (input : List ℕ) (rows : List FvNode) (row : FvNode) (r : NodeRow) (m : Meaning)
+        → IsStreamNodeIn input rows row r → r.node ≡ VolumeNode m → Accepted (bytes_at input row) m }
+    ensures file { (input : List ℕ) (rows : List FvNode) (row : FvNode) (r : NodeRow) (f : FileMeaning) (b : List ℕ)
+        → IsStreamNodeIn input rows row r → r.node ≡ FileNode f → plain_of (content_of f) ≡ Some b → bytes_at input row ≡ b }
+    ensures section { (input : List ℕ) (rows : List FvNode) (row : FvNode) (r : NodeRow) (s : SectionMeaning) (b : List ℕ)
+        → IsStreamNodeIn input rows row r → r.node ≡ SectionNode s → leaf_of (body_of s) ≡ Some b → bytes_at input row ≡ b }
+{}
+
+/// States that the rows of a stream of sections are the rows of a file's data that are this stream,
+/// without the depth of these data. (PI specification, volume 3, sections 3.2.3 and 3.2.4.)
+pub fn streams_have_the_rows_of_data()
+    ensures { (depth nesting tail : ℕ) (sections : SectionMeanings)
+        → rows_in_content depth nesting (Sectioned sections tail)
+        ≡ map (deeper_row depth nesting) (rows_of_sections 0 0 0 sections) }
 {}

@@ -22,6 +22,7 @@ pub mod laws;
 mod layout;
 pub mod reports;
 mod scan;
+pub mod sections;
 mod translate;
 pub mod tree;
 pub mod tree_digests;

@@ -9,7 +9,8 @@ ghost use Rattle.fv_tree.specs.Words.{Accepted, BeginWithFiles, NotRead, body_of
 ghost use Rattle.fv_c.specs.Reports.{BeginsWithHeader, reported_fault, no_fault};
 ghost use Rattle.fv_rows.specs.Words.{PartNestsAt, nodes_of, part_node};
 ghost use Rattle.fv_c.specs.TreeParts.{NodeRow};
-ghost use Rattle.fv_c.specs.ReportedTree.{HasTreeRows, IsNodeIn, bytes_at};
+ghost use Rattle.fv_c.specs.ReportedTree.{HasTreeRows, bytes_at};
+ghost use Rattle.fv_c.specs.ReportedSections.{IsStreamNodeIn};
 ghost use Rattle.fv_c.specs.ReportedTree.{body_number, content_number};
 ghost use Rattle.fv_c.specs.ReportedHeaders.{volume_name};
 ghost use Rattle.fv_c.specs.inner.Trees.{AreAdded, EndsBefore, HasFileNumber, HoldsParts, RowHasFiles, node_in};
@@ -64,8 +65,8 @@ pub struct FvNode {
     pub reserved: [u32; 3],
 }
 
-/// The parent of the first row.
-const NO_PARENT: u64 = 0xffff_ffff_ffff_ffff;
+/// The parent of a row that no row holds.
+pub(crate) const NO_PARENT: u64 = 0xffff_ffff_ffff_ffff;
 
 // The numbers for the contents of a part.
 const FILES: u32 = 0;
@@ -93,17 +94,17 @@ const NO_NODE: FvNode = FvNode {
     reserved: [0; 3],
 };
 
-// A row that holds parts.
+/// A row that holds parts.
 #[derive(Drop)]
-struct Holder {
-    // The number of the row.
-    row: u64,
-    // The depth of the parts.
-    depth: u32,
-    // The offset of the row, as in `FvNode`.
-    offset: u64,
-    // The files that are stored in the part of the row, if it is a volume.
-    files: Vec<LocatedFile>,
+pub(crate) struct Holder {
+    /// The number of the row, or `NO_PARENT` if the whole input, which is a stream, holds the parts.
+    pub(crate) row: u64,
+    /// The depth of the parts.
+    pub(crate) depth: u32,
+    /// The offset of the row, as in `FvNode`.
+    pub(crate) offset: u64,
+    /// The files that are stored in the part of the row, if it is a volume.
+    pub(crate) files: Vec<LocatedFile>,
 }
 
 // Returns `FvName` of a volume, or zeros if it has no extended header.
@@ -206,7 +207,7 @@ fn bytes_of_row<'a>(input: &'a [u8], node: &FvNode) -> &'a [u8]
 
 // Returns the files that are stored in the part of a row, if it is a volume.
 fn files_in(alloc: Global, input: &[u8], node: &FvNode) -> Result<Vec<LocatedFile>, Fault>
-    requires row { (rows : List FvNode) × (r : NodeRow) × IsNodeIn input.now rows node.now r }
+    requires row { (rows : List FvNode) × (r : NodeRow) × IsStreamNodeIn input.now rows node.now r }
     ensures files { IfOk result (λ v. RowHasFiles input.now node.now v.items) }
     ensures err { IfErr result (λ f. f ≡ out_of_memory) }
 {
@@ -217,7 +218,7 @@ fn files_in(alloc: Global, input: &[u8], node: &FvNode) -> Result<Vec<LocatedFil
 }
 
 // Adds the rows of parts that a row holds, each followed by the rows of the parts inside it.
-fn put_parts(
+pub(crate) fn put_parts(
     alloc: Global,
     input: &[u8],
     mut parts: Parts<'_, '_>,

@@ -4,9 +4,11 @@
 ghost use Rattle.std.specs.Prelude.{◌≡◌, ◌≢◌, ◌<◌, ◌++◌, ℕ, List, length, drop, IfOk, IfErr};
 ghost use Rattle.fv_base.specs.Words.{OrMemory, fault_number, out_of_memory};
 ghost use Rattle.fv_base.specs.declared.fault.Fault.{Fault};
-ghost use Rattle.fv_canon.specs.Words.{AreAllStarts, NormalisesTo, Rejects};
+ghost use Rattle.fv_canon.specs.Words.{AreAllStarts, BeginsWithStarts, NormalisesTo, Rejects};
 ghost use Rattle.fv_c.specs.Reports.{BeginsWithHeader, reported_fault, no_fault};
 ghost use Rattle.fv_tree.specs.Words.{Pairwise};
+ghost use Rattle.fv_rows.specs.Words.{TreeRow};
+ghost use Rattle.fv_rows.specs.inner.RowVolumes.{Followed, volumes_of};
 ghost use Rattle.fv_c.specs.TreeParts.{NodeRow, node_rows};
 ghost use Rattle.fv_c.specs.ReportedDigests.{HasTreeDigests, IsReportedDigest};
 
@@ -19,6 +21,28 @@ use fv_rows::{Digests, TreeWalk};
 use fv_tree::VolumeView;
 use std::alloc::{AllocError, Global};
 
+// Returns the digests of some rows, each followed by the rows of its contents. `starts` begin with
+// the starts of the files of the volumes among these rows, volume after volume.
+pub(crate) fn walk_digests(
+    alloc: Global,
+    rows: TreeWalk<'_, '_>,
+    starts: &[u64],
+) -> Result<Vec<FvSha256>, AllocError>
+    requires { Followed rows × BeginsWithStarts (volumes_of rows) starts.now }
+    ensures { IfOk result (λ v. Pairwise (λ (d : FvSha256) (r : TreeRow). IsReportedDigest r.node d.bytes)
+        v.items rows.entry) }
+{
+    let mut found = Vec::new(alloc);
+    let mut digests = ImageDigests::new(starts);
+    for row in rows {
+        let digest = digests.next_digest(&row);
+        found.push(FvSha256 {
+            bytes: digest.unwrap_or([0; 32]),
+        })?;
+    }
+    Ok(found)
+}
+
 // Returns the digests of the rows of a volume. `starts` are the starts of the volume's files, and
 // of the files of the volumes inside it, in its layout.
 fn row_digests(
@@ -30,15 +54,7 @@ fn row_digests(
     ensures { IfOk result (λ v. Pairwise (λ (d : FvSha256) (r : NodeRow). IsReportedDigest r.node d.bytes)
         v.items (node_rows volume.now)) }
 {
-    let mut found = Vec::new(alloc);
-    let mut digests = ImageDigests::new(starts);
-    for row in TreeWalk::of(volume) {
-        let digest = digests.next_digest(&row);
-        found.push(FvSha256 {
-            bytes: digest.unwrap_or([0; 32]),
-        })?;
-    }
-    Ok(found)
+    walk_digests(alloc, TreeWalk::of(volume), starts)
 }
 
 // Reads the input as a volume, lays it out, and returns the digests of the rows of its tree.

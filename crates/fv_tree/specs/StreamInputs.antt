@@ -9,8 +9,8 @@ use Rattle.fv_tree.specs.Denotes.{Stream}
 use Rattle.fv_tree.specs.FirstFault.{InStream, outermost}
 use Rattle.fv_tree.specs.Meaning.{SectionMeaning}
 
--- the bytes, each of them below 256, are accepted as a stream of these sections, with `tail` bytes after the last: there
--- are at most `volume_limit` bytes, and groups and opened volumes nest at most `depth_limit` deep
+-- the bytes, at most `volume_limit` of them and each below 256, are accepted as a stream of these sections, with `tail`
+-- bytes after the last; groups and opened volumes nest at most `depth_limit` deep
 pub record AcceptedStream (sections : List SectionMeaning) (tail : ℕ) (b : List ℕ) : Type 0 where
   pub bytes : IsBytes b
   pub short : length b ≤ volume_limit

@@ -85,6 +85,12 @@ extern "C" {
         count: *mut usize, fault: *mut fv_fault) -> fv_result;
     pub fn fv_volume_extract(volume: *const c_void, size: usize, row: usize, buffer: *mut c_void, buffer_size: usize,
         length: *mut usize, fault: *mut fv_fault) -> fv_result;
+    pub fn fv_sections_tree(sections: *const c_void, size: usize, rows: *mut fv_node, room: usize, count: *mut usize,
+        fault: *mut fv_fault) -> fv_result;
+    pub fn fv_sections_tree_digests(sections: *const c_void, size: usize, rows: *mut fv_sha256, room: usize,
+        count: *mut usize, fault: *mut fv_fault) -> fv_result;
+    pub fn fv_sections_extract(sections: *const c_void, size: usize, row: usize, buffer: *mut c_void,
+        buffer_size: usize, length: *mut usize, fault: *mut fv_fault) -> fv_result;
     pub fn fv_depex_evaluate(expression: *const c_void, size: usize, phase: u32, installed: *const fv_guid,
         installed_count: usize, value: *mut u32, fault: *mut fv_fault) -> fv_result;
     pub fn fv_hobs_read(list: *const c_void, size: usize, rows: *mut fv_hob, room: usize, count: *mut usize,

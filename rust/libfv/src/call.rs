@@ -62,6 +62,22 @@ pub(crate) fn rows<T: Row>(call: RowsCall<T::Raw>, input: &[u8]) -> Result<Vec<T
     }
 }
 
+/// A call that writes the part of a row of its input.
+type PartCall =
+    unsafe extern "C" fn(*const c_void, usize, usize, *mut c_void, usize, *mut usize, *mut sys::fv_fault) -> sys::fv_result;
+
+/// Returns the bytes of the part of a row, which a call writes.
+pub(crate) fn part(call: PartCall, input: &[u8], row: usize) -> Result<Vec<u8>, Error> {
+    // No part is longer than the input. Memory that is never written to costs little.
+    // SAFETY: the input is a slice, the other pointers come from `filled`, and the call writes what
+    // fv.h says.
+    unsafe {
+        filled(input.len(), |buffer: *mut u8, room, length, fault| {
+            call(address(input), input.len(), row, buffer.cast(), room, length, fault)
+        })
+    }
+}
+
 /// A call that writes one value about an input.
 type ValueCall<T> = unsafe extern "C" fn(*const c_void, usize, *mut T, *mut sys::fv_fault) -> sys::fv_result;
 

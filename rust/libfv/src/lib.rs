@@ -22,6 +22,9 @@
 //! | What is in a volume, at every level? | [`volume::tree`] |
 //! | Which digest does each of these parts have? | [`volume::tree_digests`] |
 //! | What are the bytes of one of these parts? | [`volume::extract`] |
+//! | What is in a stream of sections, at every level? | [`sections::tree`] |
+//! | Which digest does each of these parts have? | [`sections::tree_digests`] |
+//! | What are the bytes of one of these parts? | [`sections::extract`] |
 //! | Is a dependency expression true? | [`depex::evaluate`] |
 //! | Which blocks does a hand-off list have? | [`hobs::read`] |
 //!
@@ -56,6 +59,7 @@ pub mod depex;
 pub mod header;
 pub mod hobs;
 pub mod image;
+pub mod sections;
 pub mod volume;
 
 pub use error::{Error, Fault, FaultKind};

@@ -405,14 +405,7 @@ pub fn tree_digests(volume: &[u8]) -> Result<Vec<NodeDigest>, Error> {
 /// depth of such a fault counts only groups and opened volumes inside the part.
 /// [`Error::OutOfMemory`] if memory runs out.
 pub fn extract(volume: &[u8], row: usize) -> Result<Vec<u8>, Error> {
-    // No part is longer than the volume. Memory that is never written to costs little.
-    // SAFETY: the volume is a slice, the other pointers come from `filled`, and the call writes
-    // what fv.h says.
-    unsafe {
-        filled(volume.len(), |buffer: *mut u8, room, length, fault| {
-            sys::fv_volume_extract(address(volume), volume.len(), row, buffer.cast(), room, length, fault)
-        })
-    }
+    call::part(sys::fv_volume_extract, volume, row)
 }
 
 #[cfg(test)]

@@ -25,7 +25,7 @@ enum {
 };
 
 /* The low bits of MODE. 0 to 2 are AS_VOLUME. */
-enum { AS_VOLUME, AS_IMAGE = 3, AS_EXPRESSION, AS_HAND_OFF_LIST, AS_PAIR, AS_IMAGE_AND_VOLUME, MODES };
+enum { AS_VOLUME, AS_IMAGE = 3, AS_EXPRESSION, AS_HAND_OFF_LIST, AS_PAIR, AS_IMAGE_AND_VOLUME, AS_SECTIONS, MODES };
 /* This bit of MODE places the data and each buffer at the start of a page, and the page before it cannot be touched.
  * Otherwise they end at the end of a page. */
 #define AT_START 0x80
@@ -56,6 +56,7 @@ void try_volume(const uint8_t *bytes, size_t len, const uint8_t *parameters);
 void try_image(const uint8_t *bytes, size_t len, const uint8_t *parameters);
 void try_expression(const uint8_t *bytes, size_t len, const uint8_t *parameters);
 void try_hand_off_list(const uint8_t *bytes, size_t len, const uint8_t *parameters);
+void try_sections(const uint8_t *bytes, size_t len, const uint8_t *parameters);
 void try_pair(const uint8_t *bytes, size_t len, const uint8_t *parameters);
 void try_guid(const uint8_t *bytes, size_t len);
 
@@ -81,6 +82,8 @@ void sha256(const uint8_t *bytes, size_t len, uint8_t *digest);
  * written to, and returns its place. The buffers for this input are placed in the same way. */
 void open_rooms(void);
 const uint8_t *place_input(const uint8_t *data, size_t len, bool at_start);
+/* Does the same with a stream of sections, in a room of its own and at the same side of it. */
+const uint8_t *place_stream(const uint8_t *data, size_t len);
 
 /* Returns a buffer of this many bytes. The bytes of the buffer, and the bytes before and after it, are UNTOUCHED. There
  * is only one buffer at a time. */

@@ -24,7 +24,10 @@ enum {
     SYSTEM_NAME,     /* the row of a nested volume without a name has the GUID of its file system */
     NO_NUL,          /* the text of a difference in a section is not ended */
     FIRST_INPUT,     /* a fault of the second volume is reported for the first */
-    THIRD_NAME       /* the name of the third of several volumes that are found is zeros */
+    THIRD_NAME,      /* the name of the third of several volumes that are found is zeros */
+    FIRST_PARENT,    /* the third row of a stream, if no row holds it, has the parent 0 */
+    THIRD_DIGEST,    /* the last byte of the third digest of a stream is wrong, if this row has a digest */
+    SECOND_PART      /* the last byte of the part of the second row of a stream is wrong */
 };
 
 #define WRAPS(call) __typeof__(call) __wrap_##call, __real_##call
@@ -36,6 +39,9 @@ WRAPS(fv_image_check);
 WRAPS(fv_volume_tree);
 WRAPS(fv_volume_tree_digests);
 WRAPS(fv_volume_extract);
+WRAPS(fv_sections_tree);
+WRAPS(fv_sections_tree_digests);
+WRAPS(fv_sections_extract);
 WRAPS(fv_depex_evaluate);
 
 static int planted(void)
@@ -154,6 +160,31 @@ fv_result __wrap_fv_volume_extract(const void *volume, size_t size, size_t row, 
     if (planted() == SHORT_VOLUME && !result && row && *length > 60 && !memcmp(part + SIGNATURE, "_FVH", 4))
         part[*length - 1] ^= 0x10;
     if (planted() == FIFTH_PART && !result && row == 5 && *length) part[*length - 1] ^= 1;
+    return result;
+}
+
+fv_result __wrap_fv_sections_tree(const void *sections, size_t size, fv_node *rows, size_t room, size_t *count,
+                                  fv_fault *fault)
+{
+    fv_result result = __real_fv_sections_tree(sections, size, rows, room, count, fault);
+    if (planted() == FIRST_PARENT && !result && *count > 2 && !rows[2].depth) rows[2].parent = 0;
+    return result;
+}
+
+fv_result __wrap_fv_sections_tree_digests(const void *sections, size_t size, fv_sha256 *rows, size_t room, size_t *count,
+                                          fv_fault *fault)
+{
+    fv_result result = __real_fv_sections_tree_digests(sections, size, rows, room, count, fault);
+    if (planted() == THIRD_DIGEST && !result && *count > 2 && rows[2].bytes[0]) rows[2].bytes[31] ^= 1;
+    return result;
+}
+
+fv_result __wrap_fv_sections_extract(const void *sections, size_t size, size_t row, void *buffer, size_t buffer_size,
+                                     size_t *length, fv_fault *fault)
+{
+    fv_result result = __real_fv_sections_extract(sections, size, row, buffer, buffer_size, length, fault);
+    uint8_t *part = buffer;
+    if (planted() == SECOND_PART && !result && row == 1 && *length) part[*length - 1] ^= 1;
     return result;
 }
 

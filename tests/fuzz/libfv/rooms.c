@@ -7,7 +7,7 @@
 #define PAGE 4096u
 #define BESIDE 64u /* the number of checked bytes before and after a buffer */
 
-static uint8_t *input, *output;
+static uint8_t *input, *stream, *output;
 static bool is_at_start, is_null;
 static uint8_t *buffer, *from, *to; /* the buffer, and the bytes that are checked: the buffer and the bytes beside it */
 
@@ -21,18 +21,30 @@ static uint8_t *open_room(void)
 void open_rooms(void)
 {
     input = open_room();
+    stream = open_room();
     output = open_room();
+}
+
+/* Copies an input to the start or to the end of a room, which then cannot be written to. */
+static const uint8_t *place_in(uint8_t *room, const uint8_t *data, size_t len)
+{
+    uint8_t *place = is_at_start ? room : room + MOST_BUFFER - len;
+    if (mprotect(room, MOST_BUFFER, PROT_READ | PROT_WRITE)) abort();
+    memcpy(place, data, len);
+    if (mprotect(room, MOST_BUFFER, PROT_READ)) abort();
+    return place;
 }
 
 const uint8_t *place_input(const uint8_t *data, size_t len, bool at_start)
 {
-    uint8_t *place = at_start ? input : input + MOST_BUFFER - len;
     is_null = true;
     is_at_start = at_start;
-    if (mprotect(input, MOST_BUFFER, PROT_READ | PROT_WRITE)) abort();
-    memcpy(place, data, len);
-    if (mprotect(input, MOST_BUFFER, PROT_READ)) abort();
-    return place;
+    return place_in(input, data, len);
+}
+
+const uint8_t *place_stream(const uint8_t *data, size_t len)
+{
+    return place_in(stream, data, len);
 }
 
 uint8_t *new_buffer(size_t len, size_t alignment)

@@ -147,6 +147,7 @@ void try_volume(const uint8_t *bytes, size_t len, const uint8_t *parameters)
     try_parts(&volume);
     try_digests(&volume);
     try_unfix(&volume);
+    try_streams(&volume);
     try_compare(&volume);
     if (volume.image) try_image_of(&volume);
 }

@@ -39,5 +39,6 @@ void try_tree(struct volume *volume);
 void try_parts(const struct volume *volume);
 void try_digests(const struct volume *volume);
 void try_unfix(const struct volume *volume);
+void try_streams(const struct volume *volume);
 
 #endif

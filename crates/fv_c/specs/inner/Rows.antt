@@ -1,6 +1,7 @@
 -- The caller's buffer after a call, and the result of extracting a part.
 use Rattle.std.specs.Prelude.{◌≡◌, ◌⊎◌, ℕ, List, ◌≢◌, ◌<◌, ◌≤◌, ◌++◌, length, drop}
 use Rattle.fv_c.specs.ExtractedParts.{ExtractsTo, HasNoRow}
+use Rattle.fv_c.specs.ReportedSections.{ExtractsSection, HasNoSectionRow}
 
 -- either the result is 0 and the buffer begins with the rows and is unchanged after them, or the result is 256 and the
 -- buffer has fewer elements than there are rows and is unchanged
@@ -19,4 +20,12 @@ pub record Extracts (row : ℕ) (input old new : List ℕ) (before after result 
   pub kept : result ≢ 0 → new ≡ old
   pub small : result ≡ 256 → (bytes : List ℕ) × ExtractsTo row input bytes × (after ≡ length bytes) × (length old < length bytes)
   pub absent : result ≡ 257 → HasNoRow row input × (after ≡ before)
+  pub only : (result ≡ 0) ⊎ ((result ≡ 256) ⊎ (result ≡ 257))
+
+-- the same result for a row of a stream of sections
+pub record ExtractsFromSections (row : ℕ) (input old new : List ℕ) (before after result : ℕ) : Type 0 where
+  pub ok : result ≡ 0 → (bytes : List ℕ) × ExtractsSection row input bytes × (after ≡ length bytes) × (new ≡ bytes ++ drop (length bytes) old)
+  pub kept : result ≢ 0 → new ≡ old
+  pub small : result ≡ 256 → (bytes : List ℕ) × ExtractsSection row input bytes × (after ≡ length bytes) × (length old < length bytes)
+  pub absent : result ≡ 257 → HasNoSectionRow row input × (after ≡ before)
   pub only : (result ≡ 0) ⊎ ((result ≡ 256) ⊎ (result ≡ 257))

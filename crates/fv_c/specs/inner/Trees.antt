@@ -1,5 +1,6 @@
 -- The row of the whole input, the rows of the parts that a row holds, and the rows that a call adds for them.
-use Rattle.std.specs.Prelude.{◌≡◌, ℕ, ◌+◌, ◌<◌, ◌≤◌, List, [], ◌∷◌, ◌++◌, length, map, Option, Some, None, slice_get}
+use Rattle.std.specs.Prelude.{◌≡◌, ◌≢◌, ℕ, ◌+◌, ◌<◌, ◌≤◌, List, [], ◌∷◌, ◌++◌, length, map, Option, Some, None, slice_get}
+use Rattle.std.specs.List.{AllByRecursion}
 use Rattle.fv_base.specs.Words.{IsBytes, depth_limit}
 use Rattle.fv_section.specs.Words.{section_header_len}
 use Rattle.fv_tree.specs.Words.{Accepted, BeginWithFiles, Meaning, Pairwise, SectionMeaning, Stream, bare_form, data_place, file_form, files_of}
@@ -7,7 +8,8 @@ use Rattle.fv_tree.specs.Words.{length_of, section_is_extended}
 use Rattle.fv_tree.specs.declared.volume_files.LocatedFile.{LocatedFile}
 use Rattle.fv_rows.specs.Words.{NodeMeaning, VolumeNode, FileNode, SectionNode, TreeRow as Row, rows_of_nodes}
 use Rattle.fv_c.specs.TreeParts.{NodeRow, no_parent, parent_of, with_parents}
-use Rattle.fv_c.specs.ReportedTree.{IsNodeIn, bytes_at, reported_node}
+use Rattle.fv_c.specs.ReportedTree.{bytes_at, reported_node}
+use Rattle.fv_c.specs.ReportedSections.{IsStreamNodeIn, stream_node}
 use Rattle.fv_c.specs.declared.tree.FvNode.{FvNode}
 use Rattle.fv_c.specs.declared.tree.Holder.{Holder}
 
@@ -72,30 +74,32 @@ pub record Contents (input : List ℕ) (row : FvNode) (nodes : List NodeMeaning)
 -- this is the row of the holder, which holds these parts
 pub record HoldsIn (input : List ℕ) (h : Holder) (nodes : List NodeMeaning) (row : FvNode) : Type 0 where
   pub bytes : IsBytes input
-  pub inner : 1 ≤ h.depth
   pub within : row.offset + row.length ≤ length input
   pub contents : Contents input row nodes
   pub offset : row.offset ≡ h.offset
   pub files : RowHasFiles input row h.files.items
 
--- the holder is one of these rows, and holds these parts
+-- the holder is one of these rows (`inner`). If it holds parts of depth 0, it is the row of the whole input, which is a
+-- stream (`outer`)
+pub record IsHolder (input : List ℕ) (rows : List FvNode) (h : Holder) (row : FvNode) : Type 0 where
+  pub outer : h.depth ≡ 0 → row ≡ stream_node input
+  pub inner : h.depth ≢ 0 → slice_get rows h.row ≡ Some row
+
+-- the holder holds these parts
 abbrev pub HoldsParts : (input : List ℕ) (rows : List FvNode) → Holder → List NodeMeaning → Type 0
-HoldsParts input rows h nodes = (row : FvNode) × (slice_get rows h.row ≡ Some row) × HoldsIn input h nodes row
+HoldsParts input rows h nodes = (row : FvNode) × IsHolder input rows h row × HoldsIn input h nodes row
 
 -- the depths of these rows, and then of the rows before them, the last row first
 abbrev pub depths_after : List Row → List ℕ → List ℕ
 depths_after [] before = before
 depths_after (r ∷ rows) before = depths_after rows (r.depth ∷ before)
 
--- `rows` are a report of the rows `walked` of a tree
-abbrev pub AreRows : (input : List ℕ) → List Row → List FvNode → Type 0
-AreRows input walked rows = Pairwise (IsNodeIn input rows) rows (with_parents [] walked)
-
 -- `new` are the rows `old` and the rows of these parts at this depth, each followed by the rows inside it. The row
--- `parent` holds the parts, and the first of them has this number. If `old` are a report of the rows `walked` of a
--- tree, `new` are a report of the rows `walked` and the rows of these parts
+-- `parent` holds the parts, and the first of them has this number. `before` are the depths of the rows `old`, the last
+-- row first
 pub record AreAdded (input : List ℕ) (parent depth number : ℕ) (nodes : List NodeMeaning) (old new : List FvNode) : Type 0 where
   pub more : List FvNode
   pub joined : new ≡ old ++ more
-  pub rows : (nesting : ℕ) (walked : List Row) → AreRows input walked old → parent_of depth (depths_after walked []) ≡ parent
-      → AreRows input (walked ++ rows_of_nodes depth nesting number nodes) new
+  pub deep : AllByRecursion (λ (row : FvNode). depth ≤ row.depth) more
+  pub rows : (nesting : ℕ) (before : List ℕ) → length before ≡ length old → parent_of depth before ≡ parent
+      → Pairwise (IsStreamNodeIn input new) more (with_parents before (rows_of_nodes depth nesting number nodes))

@@ -4,15 +4,9 @@ use Rattle.fv_rows.specs.Words.{part_node, row_of, tree_rows as rows_of}
 use Rattle.fv_rows.specs.declared.tree_walk.Row.{Row}
 use Rattle.fv_c.specs.ExtractedParts.{ExtractsTo, HasNoRow, part_at}
 use Rattle.fv_c.specs.TreeParts.{NodeRow, node_rows}
-use Rattle.fv_c.proofs.WalkRows.{of_row, part_found}
+use Rattle.fv_c.proofs.WalkRows.{no_row, of_row, part_found}
 use Rattle.fv_c.proofs.extract.put_row.Goals.{After-nth}
 use Rattle.fv_c.proofs.extract.put_row.Goals as goal
-
--- a tree has at most n rows if it has no row n
-no_row : (rows : List NodeRow) (n : ℕ) → option_map (λ (r : NodeRow). r.node) (slice_get rows n) ≡ None → length rows ≤ n
-no_row [] n e = omega arith
-no_row (r ∷ rows) zero e = cc
-no_row (r ∷ rows) (suc n) e = omega (arith, no_row rows n e)
 
 -- row n of the tree has the part that the walk found
 found : (c : After-nth) (o : Option Row) → c.nth.result ≡ o

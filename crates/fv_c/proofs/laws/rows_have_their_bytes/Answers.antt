@@ -1,28 +1,13 @@
-use Rattle.std.proofs.Common.{◌≡◌, ◌∙◌, ℕ, List, Some}
-use Rattle.fv_base.specs.Words.{depth_limit}
-use Rattle.fv_section.specs.Words.{FrameForm}
-use Rattle.fv_tree.specs.Words.{FileForm, FileMeaning, File, Plain, Sectioned, MeansFile, MeansSection, SectionMeaning, Section, Leaf, Group, Nested}
-use Rattle.fv_tree.specs.Words.{Stream, body_of, content_of, leaf_of, plain_of}
+use Rattle.std.proofs.Common.{◌∙◌}
+use Rattle.fv_c.proofs.RowBytes.{leaf_is, plain_is}
 use Rattle.fv_c.proofs.laws.rows_have_their_bytes.Goals as goal
 
 pub returns-clause-volume : goal.returns-clause-volume
 returns-clause-volume c input rows row r m own is = (rw is at own.placed).0
 
--- the payload of a file whose data are plain bytes is these bytes
-plain_is : (f : FileForm) (m : FileMeaning) (b : List ℕ) → MeansFile (Stream depth_limit) f m → plain_of (content_of m) ≡ Some b
-    → f.payload ≡ b
-plain_is f (File name kind attributes (Plain c)) b (p, q, r, (h, same)) e = cc
-plain_is f (File name kind attributes (Sectioned ss tail)) b means e = cc
-
 pub returns-clause-file : goal.returns-clause-file
 returns-clause-file c input rows row r m b own is plain =
     let (holder, at, file) = rw is at own.placed in file.payload ∙ plain_is file.file m b file.means plain
-
--- the body of a frame whose section holds plain bytes is these bytes
-leaf_is : (f : FrameForm) (s : SectionMeaning) (b : List ℕ) → MeansSection depth_limit f s → leaf_of (body_of s) ≡ Some b → f.body ≡ b
-leaf_is f (Section kind extended (Leaf c)) b (p, q, (g, o, same)) e = cc
-leaf_is f (Section kind extended (Group ss tail)) b means e = cc
-leaf_is f (Section kind extended (Nested m)) b means e = cc
 
 pub returns-clause-section : goal.returns-clause-section
 returns-clause-section c input rows row r s b own is leaf =

@@ -1,7 +1,8 @@
 use Rattle.std.proofs.Common.{◌+◌, refl, ◌≡◌, ◌∷◌, ℕ, arith, length, rules}
 use Rattle.fv_rows.proofs.Laws.{deep, inside_nests}
 use Rattle.fv_rows.specs.Words.{nodes_of, part_node}
-use Rattle.fv_c.specs.ReportedTree.{IsNodeIn, bytes_at}
+use Rattle.fv_c.specs.ReportedSections.{IsStreamNodeIn}
+use Rattle.fv_c.specs.ReportedTree.{bytes_at}
 use Rattle.fv_c.specs.inner.Trees.{row_in}
 use Rattle.fv_c.proofs.TreeRows.{contents, first_begins}
 use Rattle.fv_c.proofs.TreeLoop.{Putting, none_added, part_holds, part_lies, put_more, row_found}
@@ -14,7 +15,7 @@ putting : (t : ℕ) (c : In-Some t) → Putting c.args.input.now c.args.holder.n
 putting t c = rw c.in-Some.ensures.some at c.loop-part.invariant
 
 -- the new row reports the next part
-found : (t : ℕ) (c : After-node_in-node t) → IsNodeIn c.args.input.now c.loop-part.rows.items c.node_in-node.result
+found : (t : ℕ) (c : After-node_in-node t) → IsStreamNodeIn c.args.input.now c.loop-part.rows.items c.node_in-node.result
     (row_in c.args.holder.now c.loop-part.number (part_node c.in-Some.part))
 found t c = row_found (rw c.in-Some.ensures.some at c.loop-part.invariant) c.node_in-node.result c.node_in-node.ensures
 

@@ -1,31 +1,17 @@
-use Rattle.std.proofs.Common.{◌∙◌, [], ◌∷◌, append-nil, append_assoc}
+use Rattle.std.proofs.Common.{[]}
+use Rattle.std.proofs.lemmas.Result.{IfOk-weaker}
+use Rattle.fv_rows.proofs.Laws.{rows_followed, tree_volumes}
 use Rattle.fv_rows.specs.Words.{tree_rows as rows_of}
-use Rattle.fv_canon.proofs.Laws.{layout_covers}
+use Rattle.fv_tree.specs.Words.{volumes_in}
+use Rattle.fv_canon.proofs.Laws.{begin_all}
 use Rattle.fv_c.proofs.WalkRows.{with_digests}
 use Rattle.fv_c.proofs.tree_digests.row_digests.Goals as goal
 
-pub loop-row-init : goal.loop-row-init
-loop-row-init c =
-    let is = c.into_iter-row-iterator.ensures.into_iter_gives ∙ c.of-row-items.ensures in (
-      tt,
-      tt,
-      rw is (layout_covers c.args.volume.now c.args.starts.now c.new-digests.result c.new-digests.ensures c.requires),
-      λ others are. rw c.new-found.ensures.items are,
-    )
-
-pub next_digest-digest-requires : goal.next_digest-digest-requires
-next_digest-digest-requires c = (_, rw c.in-Some.ensures.steps at c.loop-row.invariant.2)
-
-pub loop-row-preserved : goal.loop-row-preserved
-loop-row-preserved c = (
-  tt,
-  tt,
-  c.next_digest-digest.ensures.left _ (rw c.in-Some.ensures.steps at c.loop-row.invariant.2),
-  λ others are. rw (c.in_ok-push.ensures.items, append_assoc)
-      (c.loop-row.invariant.3 (_ ∷ others) (rw c.in-Some.ensures.steps ((_, c.next_digest-digest.ensures.digest, c.unwrap_or.ensures), are))),
-)
+pub walk_digests-requires : goal.walk_digests-requires
+walk_digests-requires c =
+    let m = c.args.volume.now in
+    rw c.of.ensures (rows_followed m, rw (tree_volumes m) (begin_all (volumes_in m) c.args.starts.now c.requires))
 
 pub returns : goal.returns
 returns c =
-    with_digests c.loop-row.found.items [] (rows_of c.args.volume.now)
-    (rw (append-nil, c.into_iter-row-iterator.ensures.into_iter_gives, c.of-row-items.ensures) at (c.loop-row.invariant.3 [] (rw c.in-None.ensures.steps.0 tt)))
+    IfOk-weaker c.walk_digests.result _ _ (λ v are. with_digests v.items [] (rows_of c.args.volume.now) (rw c.of.ensures at are)) c.walk_digests.ensures

@@ -3,7 +3,7 @@ use Rattle.fv_canon.specs.declared.image_digests.ImageDigests.{ImageDigests}
 use Rattle.fv_canon.specs.inner.Digests.{Covers}
 use Rattle.fv_c.proofs.WalkRows.{AreRowDigests}
 use Rattle.fv_c.specs.declared.canonical.FvSha256.{FvSha256}
-use Rattle.fv_c.proofs.tree_digests.row_digests.Given as goal
+use Rattle.fv_c.proofs.tree_digests.walk_digests.Given as goal
 
 -- the starts that are left begin with the starts of the files of the volumes among the rows that are left; the digests
 -- that were added, followed by the digests of these rows, are the digests of all rows
