@@ -15,6 +15,10 @@ function that the edit changes. A line `goal: MODULE::FUNCTION NAME` names the f
 this, and is tried on its own. Several pairs of old and new are one edit. In must-fail/ the two further lines begin with
 `# `: `rt ci` does not read them, and accepts any goal at which it rejects the edit.
 
+A line `in: MODULE::FUNCTION` after the line `file:` names the function that the old texts after it are in. Each of them
+must then be in this function exactly once, and may be in other functions of the file too. must-fail/ has no such line,
+because `rt ci` does not read it.
+
 The goal must not belong to a clause that says nothing of the outcome: a clause that names neither `result` nor a new
 state, for example `out.new`. No body can break such a clause. The prover rejects the edit only if its proof of the
 clause needs the right body, and would still reject it without the clause that matters.

@@ -26,11 +26,13 @@ REJECTED = (FALSE, NO_PROOF, WEAK)
 
 @dataclasses.dataclass(frozen=True)
 class Change:
-    """A text of a file, which is there exactly once, and the text that replaces it."""
+    """A text of a file, which is there exactly once, and the text that replaces it. If the change names a function, the
+    text is in this function exactly once, and may be elsewhere in the file too."""
 
     file: str
     old: str
     new: str
+    inside: str = ""
 
 
 @dataclasses.dataclass(frozen=True)
@@ -58,43 +60,70 @@ def files_of_edits(folder: pathlib.Path) -> list[pathlib.Path]:
 def read_edit(path: pathlib.Path) -> Edit:
     """Reads an edit. A line that belongs to no change is ignored, as in `rt must-fail`. In must-fail/, the lines that
     `rt must-fail` ignores begin with `# `, since `rt check` prints a note on any other line that it does not know."""
-    file, old, goal, of, is_bare, changes = "", "", "", "", False, list[Change]()
+    file, inside, old, goal, of, is_bare, changes = "", "", "", "", "", False, list[Change]()
     for line in (it.removeprefix("# ") for it in path.read_text(encoding="utf-8").split("\n")):
         if line.startswith("file: "):
-            file = line[6:].strip()
+            file, inside = line[6:].strip(), ""
+        elif line.startswith("in: "):
+            inside = line[4:].strip()
         elif line.startswith("old: "):
             old = line[5:]
         elif line.startswith("new:"):
-            changes.append(Change(file, old, line[4:].removeprefix(" ")))
+            changes.append(Change(file, old, line[4:].removeprefix(" "), inside))
         elif line.startswith("goal: "):
             of, _, goal = line[6:].rpartition(" ")
         is_bare = is_bare or line == "answer: none"
     return Edit(path, tuple(changes), goal, of, is_bare)
 
 
+def place_of(change: Change, texts: dict[str, str]) -> int | None:
+    """Returns where the old text of a change begins in its file, or nothing if it does not occur exactly once."""
+    text = texts.get(change.file, "")
+    begin, end = 0, len(text)
+    if change.inside:
+        function = next((it for it in functions(change.file, texts) if it.path == change.inside), None)
+        if not function:
+            return None
+        lines = text.split("\n")
+        begin, end = (len("\n".join(lines[:at])) for at in (function.head, function.last + 1))
+    is_there = bool(change.old) and text.count(change.old, begin, end) == 1
+    return text.index(change.old, begin, end) if is_there else None
+
+
+def replaced(change: Change, texts: dict[str, str]) -> dict[str, str] | None:
+    """Returns the texts after a change, or nothing if its old text does not occur exactly once."""
+    at = place_of(change, texts)
+    if at is None:
+        return None
+    text = texts[change.file]
+    return {**texts, change.file: text[:at] + change.new + text[at + len(change.old) :]}
+
+
 def applied(changes: tuple[Change, ...], texts: dict[str, str]) -> dict[str, str] | None:
     """Returns the texts after some changes, or nothing if an old text does not occur exactly once."""
-    found = dict(texts)
+    found: dict[str, str] | None = texts
     for change in changes:
-        if not change.old or found.get(change.file, "").count(change.old) != 1:
-            return None
-        found[change.file] = found[change.file].replace(change.old, change.new)
+        found = replaced(change, found) if found else None
     return found if found != texts else None
 
 
 def changed(edit: Edit, texts: dict[str, str]) -> list[Function] | None:
-    """Returns the functions that an edit changes, or nothing if it changes more than functions and imports."""
+    """Returns the functions that an edit changes, or nothing if it changes more than functions and imports, or cannot be
+    applied."""
     found: dict[str, Function] = {}
-    now = texts
+    now: dict[str, str] | None = texts
     for change in edit.changes:
+        place = place_of(change, now) if now else None
+        if not now or place is None:
+            return None
         text = now[change.file]
-        at = text.count("\n", 0, text.find(change.old) + len(change.old) - len(change.old.lstrip()))
+        at = text.count("\n", 0, place + len(change.old) - len(change.old.lstrip()))
         function = around(change.file, now, at)
         if function:
             found[function.path] = function
         elif not IMPORT.match(text.split("\n")[at]):
             return None
-        now = {**now, change.file: text.replace(change.old, change.new)}
+        now = replaced(change, now)
     return list(found.values()) or None
 
 

@@ -6,7 +6,7 @@ would still be rejected if the clause that matters were deleted."""
 from tests.checks import ROOT
 from tests.frame import RoomCase
 from tests.mutants.crates import files_of
-from tests.mutants.edits import Change, Edit, changed, files_of_edits, read_edit
+from tests.mutants.edits import Change, Edit, applied, changed, files_of_edits, read_edit
 from tests.mutants.functions import can_be_broken, functions
 from tests.mutants.unnamed import NO_BODY, unnamed_in
 from tests.sources.definitions import Clause
@@ -84,6 +84,24 @@ class Goals(RoomCase):
             path.write_text(f"file: src/a.rt\nold: x\nnew: y\n{mark}goal: a::f returns-clause-ok\n{mark}answer: none\n")
             found = Edit(path, (Change("src/a.rt", "x", "y"),), "returns-clause-ok", "a::f", True)
             self.assertEqual(read_edit(path), found)
+
+    def test_places(self) -> None:
+        """A text that is in two functions is replaced in the function that the line `in:` names, and nowhere else."""
+        path, texts = self.room / "made.edit", {"src/made.rt": MADE}
+        first, second, third = MADE.split("    loop {}")
+        for name, now in (
+            ("", None),
+            ("made::put_number", f"{first}    length(out){second}    loop {{}}{third}"),
+            ("made::GapSink::put", f"{first}    loop {{}}{second}    length(out){third}"),
+            ("made::law", None),
+            ("made::no_function", None),
+        ):
+            with self.subTest(name):
+                line = f"in: {name}\n" if name else ""
+                path.write_text(f"file: src/made.rt\n{line}old:     loop {{}}\nnew:     length(out)\ngoal: returns\n")
+                edit = read_edit(path)
+                self.assertEqual([it.path for it in changed(edit, texts) or []], [name] if now else [])
+                self.assertEqual(applied(edit.changes, texts), {"src/made.rt": now} if now else None)
 
     def test_edits(self) -> None:
         """Each wrong body of the repository names a goal that a body can break, also each that `rt ci` tries."""

@@ -2,10 +2,9 @@
 
 ghost use Rattle.std.specs.Prelude.{◌≡◌, ◌⊎◌, length, IfOk, IfErr};
 ghost use Rattle.fv_caller.specs.declared.fault.CallerFault.TheVariants.{Volume};
-ghost use Rattle.fv_base.specs.Words.{OrMemory, out_of_memory};
 ghost use Rattle.fv_base.specs.declared.fault.Fault.{Fault};
 ghost use Rattle.fv_canon.specs.Words.{IsImage, Rejects};
-ghost use Rattle.fv_tree.specs.Words.{Accepted, Meaning, files_of};
+ghost use Rattle.fv_tree.specs.Words.{Accepted, Meaning, MemoryRanOut, files_of};
 
 use crate::fault::CallerFault;
 use fv_base::ByteList;
@@ -27,15 +26,15 @@ pub struct Archived {
 /// # Errors
 ///
 /// `CallerFault::Volume`, with the fault for which `normalise` rejects the input, or with
-/// OutOfMemory.
+/// OutOfMemory, only if the input begins with a volume header.
 pub fn archive_volume(alloc: Global, input: &[u8]) -> Result<Archived, CallerFault>
     // The input is a volume, `image` is its canonical image, and `files` counts its files.
     ensures ok { IfOk result
         (λ a. (m : Meaning) × Accepted input.now m × IsImage m a.image × (a.files ≡ length (files_of m))) }
 
-    // Memory ran out, or the input has no canonical image.
+    // Memory ran out and the input begins with a volume header, or the input has no canonical image.
     ensures err { IfErr result
-        (λ e. (f : Fault) × (e ≡ Volume f) × OrMemory (Rejects input.now) f) }
+        (λ e. (f : Fault) × (e ≡ Volume f) × (MemoryRanOut input.now f ⊎ Rejects input.now f)) }
 {
     let volume = whole_volume(alloc, input)?;
     let image = canonical(alloc, &volume)?;

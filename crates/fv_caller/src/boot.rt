@@ -1,7 +1,7 @@
 //! A check of the inputs that a boot reads.
 
 ghost use Rattle.std.specs.Prelude.{IfErr, OnOk};
-ghost use Rattle.fv_caller.specs.Boots.{IsBoot, IsOutOfMemory};
+ghost use Rattle.fv_caller.specs.Boots.{IsBoot, IsOutOfMemory, StopsBoot};
 
 use crate::fault::CallerFault;
 use fv_canon::whole_volume;
@@ -22,9 +22,15 @@ pub fn check_boot(
     expression: &[u8],
     hand_off: &[u8],
 ) -> Result<(), CallerFault>
+    // The boot can read all three inputs.
     ensures ok { OnOk result (IsBoot volume.now expression.now hand_off.now) }
+
+    // If the error is not out of memory, the boot cannot read all three inputs.
     ensures none { IfErr result
         (λ e. (IsOutOfMemory e → ⊥) → IsBoot volume.now expression.now hand_off.now → ⊥) }
+
+    // The error is the fault of the first input that cannot be read.
+    ensures first { IfErr result (StopsBoot volume.now expression.now hand_off.now) }
 {
     whole_volume(alloc, volume)?;
     read_depex(alloc, expression, Phase::Dxe)?;

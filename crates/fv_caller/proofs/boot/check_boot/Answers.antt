@@ -20,3 +20,24 @@ returns-in_err-read_hobs-clause-none c =
     rw (err_is c.from_residual-in_err-read_hobs.ensures.1)
     (λ other boot. c.in_err-read_hobs.ensures.none (λ want. other (inr (inr (ap faults.HandOff want))))
     boot.listed.0 boot.listed.1 boot.listed.3)
+
+pub returns-in_err-whole_volume-clause-first : goal.returns-in_err-whole_volume-clause-first
+returns-in_err-whole_volume-clause-first c =
+    rw (err_is c.from_residual.ensures.1) (elim c.in_err-whole_volume.ensures.rejected [
+      | inl want ↦ inl (want, c.in_err-whole_volume.ensures.memory want)
+      | inr bad ↦ inr bad
+    ])
+
+pub returns-in_err-read_depex-clause-first : goal.returns-in_err-read_depex-clause-first
+returns-in_err-read_depex-clause-first c =
+    rw (err_is c.from_residual-in_err-read_depex.ensures.1)
+    ((_, c.in_ok-whole_volume.ensures.found), c.in_err-read_depex.ensures.first, c.in_err-read_depex.ensures.memory)
+
+pub returns-in_err-read_hobs-clause-first : goal.returns-in_err-read_hobs-clause-first
+returns-in_err-read_hobs-clause-first c =
+    rw (err_is c.from_residual-in_err-read_hobs.ensures.1) (
+      (_, c.in_ok-whole_volume.ensures.found),
+      (_, _, c.in_ok-read_depex.ensures.found.1),
+      c.in_err-read_hobs.ensures.first,
+      c.in_err-read_hobs.ensures.memory,
+    )
