@@ -21,7 +21,6 @@ TRAIT = "a method of a trait has no body here, and the edits change its impls"
 NO_BODY = {
     "fv_base: port.rt: Port::new: inner": ONE_VALUE,
     "fv_base: port.rt: Port::with_room: inner": ONE_VALUE,
-    "fv_base: port.rt: Port::erred: (a clause without a name)": OWN_FIELD,
     "fv_base: port.rt: Port::into_inner: (a clause without a name)": ONE_VALUE,
     "fv_base: sink.rt: WriteSink::new: same_port": ONE_VALUE,
     "fv_base: sink.rt: WriteSink::outcome: small": BOUND,
