@@ -1,7 +1,11 @@
 use Rattle.std.proofs.Common.{inl, inr, refl}
-use Rattle.fv_base.proofs.Laws.{err_is, or_more}
+use Rattle.fv_base.proofs.Laws.{err_is, first_only, or_more}
 use Rattle.fv_c.proofs.SectionRows.{has_frame, none_digests}
 use Rattle.fv_c.proofs.sections.digests_in.Goals as goal
+
+pub returns-in_err-stream-clause-fits : goal.returns-in_err-stream-clause-fits
+returns-in_err-stream-clause-fits c ss tail is fit =
+    rw (err_is c.from_residual.ensures.1) (first_only c.in_err-stream.ensures.rejected (λ not. not.none ss tail is))
 
 pub returns-then-is_empty-clause-ok : goal.returns-then-is_empty-clause-ok
 returns-then-is_empty-clause-ok c =
