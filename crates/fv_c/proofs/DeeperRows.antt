@@ -1,5 +1,5 @@
 -- Proves that the rows of a part at another depth are the same rows, as much deeper (`sections_deeper`).
-use Rattle.std.proofs.Common.{◌≡◌, ◌+◌, ◌++◌, ℕ, List, map, refl, arith}
+use Rattle.std.proofs.Common.{◌≡◌, ◌+◌, ℕ, map, refl, arith}
 use Rattle.fv_base.proofs.Laws.{map-append}
 use Rattle.fv_tree.specs.Words.{Meaning, Volume, FileMeanings, NoFiles, MoreFiles, FileMeaning, File, ContentMeaning, Plain, Sectioned}
 use Rattle.fv_tree.specs.Words.{SectionMeanings, NoSections, MoreSections, SectionMeaning, Section, BodyMeaning, Leaf, Group, Nested}

@@ -1,7 +1,7 @@
 -- Proves that the rows that `TreeWalk` returns for a stream have the same parts, in the same order, as the rows of the
 -- stream (`section_found`). Proves also that a stream has a frame if it has a section (`has_frame`) or a row
 -- (`part_frame`).
-use Rattle.std.proofs.Common.{◌≡◌, ◌≢◌, ℕ, [], ◌∷◌, ◌∙◌, List, map, refl, sym, Option, Some, option_map, slice_get}
+use Rattle.std.proofs.Common.{◌≡◌, ◌≢◌, ℕ, [], ◌∷◌, ◌∙◌, List, refl, sym, Option, Some, option_map, slice_get}
 use Rattle.std.proofs.lemmas.Option.{slice_get-map}
 use Rattle.fv_base.specs.Words.{depth_limit}
 use Rattle.fv_tree.specs.Words.{AcceptedStream, HasFrame, MeansSection, Pairwise, SectionMeaning, sections_from}

@@ -1,9 +1,9 @@
-use Rattle.std.proofs.Common.{◌≡◌, ◌∙◌, ◌≤◌, ℕ, [], ◌∷◌, List, Option, Some, None, ap, arith, inr, length, option_map, rules, slice_get, suc, sym, zero}
+use Rattle.std.proofs.Common.{◌≡◌, ◌∙◌, Option, Some, None, ap, inr, option_map, rules, sym}
 use Rattle.fv_base.proofs.Laws.{YieldsList-from_first, nth_from_yields_List, IfErr-weaker, IfOk-weaker, or_more}
 use Rattle.fv_rows.specs.Words.{part_node, row_of, tree_rows as rows_of}
 use Rattle.fv_rows.specs.declared.tree_walk.Row.{Row}
 use Rattle.fv_c.specs.ExtractedParts.{ExtractsTo, HasNoRow, part_at}
-use Rattle.fv_c.specs.TreeParts.{NodeRow, node_rows}
+use Rattle.fv_c.specs.TreeParts.{node_rows}
 use Rattle.fv_c.proofs.WalkRows.{no_row, of_row, part_found}
 use Rattle.fv_c.proofs.extract.put_row.Goals.{After-nth}
 use Rattle.fv_c.proofs.extract.put_row.Goals as goal

@@ -1,10 +1,9 @@
-use Rattle.std.proofs.Common.{◌≡◌, ◌∙◌, ◌≤◌, ℕ, [], ◌∷◌, List, Option, Some, None, ap, arith, inr, length, option_map, rules, slice_get, suc, sym, zero}
+use Rattle.std.proofs.Common.{◌≡◌, ◌∙◌, Option, Some, None, ap, inr, option_map, rules, sym}
 use Rattle.fv_base.proofs.Laws.{YieldsList-from_first, nth_from_yields_List, IfErr-weaker, IfOk-weaker, or_more}
 use Rattle.fv_tree.specs.Words.{sections_from}
 use Rattle.fv_rows.specs.Words.{part_node, row_of, rows_of_sections}
 use Rattle.fv_rows.specs.declared.tree_walk.Row.{Row}
 use Rattle.fv_c.specs.ReportedSections.{ExtractsSection, HasNoSectionRow, section_part_at, section_rows}
-use Rattle.fv_c.specs.TreeParts.{NodeRow}
 use Rattle.fv_c.proofs.WalkRows.{no_row, of_row}
 use Rattle.fv_c.proofs.SectionRows.{part_frame, section_found}
 use Rattle.fv_c.proofs.sections.put_row.Goals.{After-nth}

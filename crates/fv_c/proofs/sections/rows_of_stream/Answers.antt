@@ -1,4 +1,3 @@
-use Rattle.std.proofs.Common.{◌≡◌, [], rules}
 use Rattle.fv_base.proofs.Laws.{err_is}
 use Rattle.fv_rows.proofs.Laws.{stream_nests}
 use Rattle.fv_c.proofs.SectionRows.{has_frame, none_rows}
