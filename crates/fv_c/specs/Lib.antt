@@ -6,6 +6,7 @@ pub mod ReportedCells
 pub mod ReportedChecks
 pub mod ReportedTruths
 pub mod ReportedHobs
+pub mod ReportedContents
 pub mod TreeParts
 pub mod ReportedTree
 pub mod ReportedDigests

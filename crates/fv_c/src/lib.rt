@@ -4,15 +4,17 @@
 //!
 //! A call returns 0 if it succeeds. A number below 256 is a fault of a volume. 256 means that a
 //! buffer is too small, and 257 that the tree has no row with the number that was passed. 512 and
-//! more are faults of dependency expressions, and 768 and more are faults of hand-off lists. If a
-//! call does not return 0, the caller's buffer is unchanged: the clause `kept` states this. The
-//! clause `small` states when a call returns 256, and the length that the buffer needs.
+//! more are faults of dependency expressions, 768 and more are faults of hand-off lists, and 1024 and
+//! more are faults of sections that are opened. If a call does not return 0, the caller's buffer is
+//! unchanged: the clause `kept` states this. The clause `small` states when a call returns 256, and
+//! the length that the buffer needs.
 #![tactic(auto)]
 
 mod buffer;
 pub mod canonical;
 pub mod cells;
 pub mod compare;
+pub mod contents;
 pub mod depex;
 mod extract;
 pub mod header;

@@ -24,18 +24,22 @@ pub const DEPEX_FAULTS: u32 = 0x200;
 /// except if memory runs out.
 pub const HOB_FAULTS: u32 = 0x300;
 
+/// The result for a fault of a section that is opened is this number plus the number of its
+/// `OpenFaultKind`, except if memory runs out.
+pub const OPEN_FAULTS: u32 = 0x400;
+
 /// A fault and its place. All fields are 0 if there is none.
 #[repr(C)]
 #[derive(Clone, Copy)]
 pub struct FvFault {
     /// The offset in bytes from the first byte of the input that has the fault.
     pub offset: u64,
-    /// The result of the call: the number of the `FaultKind`; or, for a fault of an expression or
-    /// of a hand-off list, `DEPEX_FAULTS` or `HOB_FAULTS` plus the number of its kind. If memory
-    /// runs out, it is always 24.
+    /// The result of the call: the number of the `FaultKind`; or, for a fault of an expression, of a
+    /// hand-off list or of a section that is opened, `DEPEX_FAULTS`, `HOB_FAULTS` or `OPEN_FAULTS`
+    /// plus the number of its kind. If memory runs out, it is always 24.
     pub result: u32,
-    /// The number of groups and opened volumes around the fault; 0 in expressions and hand-off
-    /// lists.
+    /// The number of groups and opened volumes around the fault; 0 in expressions, hand-off lists and
+    /// sections that are opened.
     pub depth: u32,
     /// 1 if the fault is in the second input of a comparison, otherwise 0.
     pub input: u32,
