@@ -33,8 +33,8 @@ import rows
 from fv import _errors, _library, _native, names
 from tests.checks import ROOT, read
 from tests.frame import RoomCase, needs_library, needs_tool
-from tests.python.outcomes import OF_IMAGE, OF_SECTION, OF_SECTIONS, OF_VOLUME, Call, grouped, outcome, packings, raised
-from tests.python.outcomes import volume_of
+from tests.python.outcomes import CONTENTS, OF_IMAGE, OF_SECTION, OF_SECTIONS, OF_VOLUME, Call, grouped, outcome
+from tests.python.outcomes import packings, raised, volume_of
 
 PACKAGE = Path(fv.__file__).parent
 HEADER = read(ROOT / "libfv/include/fv.h")
@@ -78,7 +78,7 @@ class Names(unittest.TestCase):
     def test_calls(self) -> None:
         declared = re.findall(r"\bFV_(?:API|CHECKED)_ [^;]*?\b(fv_\w+)\(", HEADER)
         named = [it for it in declared if not it.startswith("fv_guid_")]  # the module uuid has the same
-        self.assertEqual((len(declared), sorted(named)), (20, sorted(_native.CALLS)))
+        self.assertEqual((len(declared), sorted(named)), (25, sorted(_native.CALLS)))
         public = set(fv.__all__) - {it.removeprefix("fv_") for it in named}
         self.assertEqual(len(public), len(fv.__all__) - len(named))
         self.assertTrue(all(isinstance(getattr(fv, it), type) for it in public - {"Buffer", "LENGTH_MAX"}))
@@ -93,7 +93,7 @@ class Names(unittest.TestCase):
 
     def test_codes(self) -> None:
         self.assertEqual(constants("FAULT"), {it.name: it for it in fv.FaultCode})
-        self.assertEqual(len(fv.FaultCode), 33)
+        self.assertEqual(len(fv.FaultCode), 38)
         fault = _errors.fault_of(7, 99, 1, 0)  # a newer library may have other codes
         self.assertEqual((fault, type(fault.code)), (fv.Fault(99, 7, 1), int))
 
@@ -359,7 +359,7 @@ class Buffers(unittest.TestCase):
     """Each kind of buffer is read, and no buffer is changed."""
 
     def test_kinds(self) -> None:
-        calls: list[Call] = [*OF_VOLUME, *OF_SECTIONS, *OF_IMAGE, fv.header_read]
+        calls: list[Call] = [*OF_VOLUME, *OF_IMAGE, fv.header_read]
         wanted = [call(VOLUME) for call in calls]
         with tempfile.TemporaryFile() as file:
             file.write(VOLUME)
@@ -383,12 +383,12 @@ class Buffers(unittest.TestCase):
                 it.close()  # no call has kept a view
 
     def test_kinds_of_sections(self) -> None:
-        data = packings()[4].section
-        wanted = [call(data) for call in OF_SECTION]
-        for it in (bytearray(data), memoryview(data), memoryview(bytearray(b"odd" + data))[3:], Longer(data)):
-            for copied in (False, True):
-                self.assertEqual([call(it, copy=copied) for call in OF_SECTION], wanted)
-            self.assertEqual(bytes(memoryview(it)), data)
+        for calls, data in (OF_SECTION, packings()[4].section), (OF_SECTIONS, CONTENTS):
+            wanted = [call(data) for call in calls]
+            for it in (bytearray(data), memoryview(data), memoryview(bytearray(b"odd" + data))[3:], Longer(data)):
+                for copied in (False, True):
+                    self.assertEqual([call(it, copy=copied) for call in calls], wanted)
+                self.assertEqual(bytes(memoryview(it)), data)
 
     def test_empty(self) -> None:
         for empty in (b"", bytearray(), memoryview(b""), memoryview(bytearray(VOLUME))[5:5]):
