@@ -19,6 +19,8 @@
  *   What is in a volume, at every level?                  fv_volume_tree            a volume                22
  *   Which digest does each of these parts have?           fv_volume_tree_digests    a volume                9
  *   What are the bytes of one of these parts?             fv_volume_extract         a volume                5
+ *   How is a packed section opened? How long is it then?  fv_section_way            a section, then more    none
+ *   What are the contents of a packed section?            fv_section_open           a section, then more    see below
  *   What is in a stream of sections, at every level?      fv_sections_tree          a stream                22
  *   Which digest does each of these parts have?           fv_sections_tree_digests  a stream                9
  *   What are the bytes of one of these parts?             fv_sections_extract       a stream                5
@@ -30,11 +32,13 @@
  *   Which version of the library is this?                 fv_version(_number)       none                    none
  *
  * Input: "a volume" must be exactly one volume, and bytes after it are fault 8. "Then more" means that other bytes may
- * follow the volume, the list or the expression, and that the call does not read them. "A stream" must be sections one
- * after another, as a compressed or GUID-defined section holds them when it is opened. Any bytes may be passed to any
- * call: bytes that are not an input of the right kind are rejected with a fault.
+ * follow the volume, the section, the list or the expression, and that the call does not read them. "A stream" must be
+ * sections one after another, as a packed section holds them when it is opened: a compressed or GUID-defined section.
+ * Any bytes may be passed to any call: bytes that are not an input of the right kind are rejected with a fault.
  * Memory: in addition to its arguments, a call takes up to this many times the size of the input. This was measured
- * for inputs that consist of tiny parts only, which cost most.
+ * for inputs that consist of tiny parts only, which cost most. fv_section_open takes as many bytes as its contents have
+ * if it has to decode them, and otherwise none. For LZMA it takes up to 6.1 MiB more, and up to twice the contents if
+ * the stream does not say how long they are.
  * Stack: at most 20.5 KiB, as measured.
  *
  * Rules for the caller
@@ -55,7 +59,7 @@
  *   FV_BAD_ARGUMENT      A pointer breaks rule 1, 2 or 3, or the phase is not one of FV_PHASE_*. No input was read, and
  *                        nothing was written, not even `fault`.
  *   1 to 24, 0x201 ..,   The first fault of the input. FAULTS.md, which is installed beside the library's README, lists
- *   0x301 ..             the faults and their order. 24 is out of memory, in every call. If memory runs out, a call
+ *   0x301 .., 0x401 ..   the faults and their order. 24 is out of memory, in every call. If memory runs out, a call
  *                        returns 24 instead of the result that it would have returned with more memory. (But a call
  *                        that reads an input as a volume returns 24 only if that input begins with the header of a
  *                        volume, and fv_sections_* only if the input has a section and all its headers are right.)
@@ -74,7 +78,8 @@
  *   - `reserved` is 0, and may get a meaning: do not read it.
  *   - Results may be added. Treat every result except FV_OK, FV_BUFFER_TOO_SMALL, FV_NOT_FOUND and FV_BAD_ARGUMENT as a
  *     fault of the input.
- *   - FV_CELL_*, FV_NODE_*, FV_CONTENT_*, FV_DEPEX_* and FV_PHASE_* get no new member. FV_FILE_* and FV_SECTION_* may.
+ *   - FV_CELL_*, FV_NODE_*, FV_CONTENT_*, FV_DEPEX_* and FV_PHASE_* get no new member. FV_FILE_*, FV_SECTION_* and
+ *     FV_WAY_* may.
  *   - `efi_type` and `attributes` are bytes of the input, so they may have any value.
  *
  * All lengths and offsets are in bytes. A GUID has its bytes as in the volume: the least significant byte of each of
@@ -99,6 +104,7 @@
  *     while the second was read, so no statement about the arguments can show the difference);
  *   - how often fv_volume_tree and fv_volume_tree_digests read the input, and that these calls and
  *     fv_sections_tree_digests keep no image in memory;
+ *   - that fv_section_open stops decoding at its limit;
  *   - the numbers for memory and stack above, which were measured.
  * This header, the layer (src/calls.c: FV_BAD_ARGUMENT, and NULL in place of an empty argument), fv_guid_text and
  * fv_guid_parse (src/guid.c), src/heap.c and src/result_text.c are plain C, and not proved. The proofs hold only if the
@@ -119,6 +125,7 @@
 #define FV_DIFFERENCE_SIZE 553   /* the most bytes of the text of fv_volume_compare, its NUL included */
 #define FV_GUID_TEXT_SIZE 37     /* the bytes of the text of fv_guid_text, its NUL included */
 #define FV_NO_PARENT UINT64_MAX  /* the parent of a row of depth 0, which no row holds */
+#define FV_NO_LENGTH UINT64_MAX  /* the promised length of a packed section, if its headers promise none */
 
 /* FV_.._ are for this header only, which undefines them at its end. */
 #if defined __cplusplus
@@ -144,8 +151,8 @@
 FV_ASSERT_(sizeof(size_t) == 8 && sizeof(void *) == 8, "libfv is for 64-bit systems");
 
 /* The result of a call. The bits from 8 on show what the result is about: 0 a volume or an image, 1 the call, 2 a
- * dependency expression, 3 a hand-off list. For 0, 2 and 3 the low byte is the number of the fault in FAULTS.md; but
- * out of memory is 24 in every call. fv_result_text has a sentence for each result. */
+ * dependency expression, 3 a hand-off list, 4 a section that is opened. Except for 1, the low byte is the number of the
+ * fault in FAULTS.md; but out of memory is 24 in every call. fv_result_text has a sentence for each result. */
 typedef uint32_t fv_result;
 enum {
     FV_OK = 0,
@@ -186,7 +193,12 @@ enum {
     FV_FAULT_HOB_LENGTH = 0x302,
     FV_FAULT_HOB_FIRST = 0x303,
     FV_FAULT_HOB_SHAPE = 0x304,
-    FV_FAULT_HOB_NO_END = 0x305
+    FV_FAULT_HOB_NO_END = 0x305,
+    FV_FAULT_OPEN_SHORT = 0x401,
+    FV_FAULT_OPEN_WAY = 0x402,
+    FV_FAULT_OPEN_DAMAGED = 0x403,
+    FV_FAULT_OPEN_SUM = 0x404,
+    FV_FAULT_OPEN_TOO_LONG = 0x405
 };
 
 /* The kinds of cells of a volume's body: a valid file, even if it is superseded; a pad file; a deleted file; a file
@@ -250,6 +262,29 @@ enum { FV_PHASE_PEI = 0, FV_PHASE_DXE = 1 };
 /* The value of a dependency expression. BEFORE and AFTER only say in which order drivers run, and have no truth value:
  * FV_DEPEX_ORDER. */
 enum { FV_DEPEX_FALSE = 0, FV_DEPEX_TRUE = 1, FV_DEPEX_ORDER = 2 };
+
+/* The ways to open a packed section, which is a section of type 0x01 (compression) or 0x02 (GUID-defined). The contents
+ * are as they are in the section with FV_WAY_STORED (CompressionType 0); with FV_WAY_CRC32, after their CRC32 (the GUID
+ * fc1bcdb0-7d31-49aa-936a-a4600d9dd083); with FV_WAY_SIGNED, after a signature that is not verified (the GUID
+ * 0f9d89e8-9259-4f76-a5af-0c89e34023df or, with RSA 2048 and SHA-256, a7717414-c616-4977-9420-844712a735bf); and with
+ * FV_WAY_PLAIN (any other GUID, if bit 0x01 of Attributes is clear). They are decoded with FV_WAY_UEFI, the compression
+ * of the UEFI specification; with FV_WAY_TIANO, Tiano's form of it (a31280ad-481e-41b6-95e8-127f4c984779); with
+ * FV_WAY_LZMA (ee4e5898-3914-4259-9d6e-dc7bd79403cf, or 0ed85e23-f253-413f-a03c-901987b04397); and with FV_WAY_LZMA_X86
+ * LZMA of x86 code (CompressionType 0x86, or d42ae6bd-1352-4bfb-909a-ca72a6eae889). FV_WAY_STANDARD (CompressionType 1)
+ * is FV_WAY_UEFI or FV_WAY_TIANO, of which only decoding shows which. FV_WAY_CUSTOMIZED (CompressionType 2) is
+ * FV_WAY_LZMA, maybe after four other bytes. These two are what a header says, and no contents have them. */
+enum {
+    FV_WAY_STORED = 1,
+    FV_WAY_STANDARD = 2,
+    FV_WAY_UEFI = 3,
+    FV_WAY_TIANO = 4,
+    FV_WAY_CUSTOMIZED = 5,
+    FV_WAY_LZMA = 6,
+    FV_WAY_LZMA_X86 = 7,
+    FV_WAY_CRC32 = 8,
+    FV_WAY_SIGNED = 9,
+    FV_WAY_PLAIN = 10
+};
 
 /* A GUID, by its bytes in a volume. */
 typedef struct fv_guid {
@@ -373,6 +408,27 @@ FV_ASSERT_(sizeof(fv_hob) == 32 && offsetof(fv_hob, volume_base) == 0 && offseto
                offsetof(fv_hob, reserved) == 24,
            "the layout of fv_hob");
 
+/* What the header of a packed section says about its contents. */
+typedef struct fv_way {
+    uint64_t promised;    /* the length of the contents that a header promises; FV_NO_LENGTH if none does */
+    uint64_t data_offset; /* where the data begin, from the first byte of the section */
+    uint32_t way;         /* FV_WAY_* */
+    uint32_t reserved;    /* 0 */
+} fv_way;
+FV_ASSERT_(sizeof(fv_way) == 24 && offsetof(fv_way, promised) == 0 && offsetof(fv_way, data_offset) == 8 &&
+               offsetof(fv_way, way) == 16 && offsetof(fv_way, reserved) == 20,
+           "the layout of fv_way");
+
+/* The contents of a packed section. */
+typedef struct fv_contents {
+    uint64_t length;   /* the number of their bytes */
+    uint32_t way;      /* FV_WAY_*, the way that gave them */
+    uint32_t reserved; /* 0 */
+} fv_contents;
+FV_ASSERT_(sizeof(fv_contents) == 16 && offsetof(fv_contents, length) == 0 && offsetof(fv_contents, way) == 8 &&
+               offsetof(fv_contents, reserved) == 12,
+           "the layout of fv_contents");
+
 /* Returns the version of the library that is loaded, as FV_VERSION_NUMBER has it. If its first number, the result
  * shifted right by 16, is not FV_VERSION_MAJOR, nothing else of this header is true of that library. */
 FV_API_ uint32_t fv_version_number(void);
@@ -491,6 +547,26 @@ FV_CHECKED_ fv_result fv_volume_tree_digests(const void *volume, size_t size, fv
  * Leaves *length unchanged after a fault and after FV_NOT_FOUND. */
 FV_CHECKED_ fv_result fv_volume_extract(const void *volume, size_t size, size_t row, void *buffer, size_t buffer_size,
                                         size_t *length, fv_fault *fault);
+
+/* Reads what the header of the packed section with which the bytes begin says about its contents. Decodes nothing, and
+ * takes no memory. The promised length is UncompressedLength of a compression section; in a GUID-defined section it is
+ * the length in the header of LZMA or of Tiano's compression, or the number of bytes from data_offset on if these are
+ * the contents. Contents that are decoded may have another length, since some vendors store another UncompressedLength,
+ * and a hostile header may promise any number.
+ * Returns FV_OK, and sets *way. Otherwise returns the first fault, FV_FAULT_OPEN_SHORT or FV_FAULT_OPEN_WAY, and leaves
+ * *way unchanged. */
+FV_CHECKED_ fv_result fv_section_way(const void *section, size_t size, fv_way *way, fv_fault *fault);
+
+/* Opens the packed section with which the bytes begin: writes its contents, of at most `limit` bytes, to the start of
+ * the buffer, and sets *found to their length and the way that gave them. The contents of most packed sections are a
+ * stream of sections, for fv_sections_tree. Decoding stops at the limit, which so bounds the memory and the time that a
+ * hostile section takes. No signature is verified.
+ * Returns FV_OK, or FV_BUFFER_TOO_SMALL if buffer_size < found->length. Otherwise returns the first fault, 0x401 to
+ * 0x405 or 24, and leaves *found unchanged. If the contents have more than `limit` bytes, the fault is
+ * FV_FAULT_OPEN_TOO_LONG; but if they are a stream after four other bytes (FV_WAY_CUSTOMIZED), it is the fault of the
+ * data from these four bytes on. Memory can run out only if the contents have to be decoded. */
+FV_CHECKED_ fv_result fv_section_open(const void *section, size_t size, size_t limit, void *buffer, size_t buffer_size,
+                                      fv_contents *found, fv_fault *fault);
 
 /* Writes the whole tree of a stream of sections, which is what a compressed or GUID-defined section holds when it is
  * opened: sections one after another, each at a multiple of 4 from the first byte. Writes a row for each section of the

@@ -9,6 +9,7 @@
 #include "arguments.h"
 
 fv_result fvp_volume_compare(const void *, size_t, const void *, size_t, char *, size_t, fv_comparison *, fv_fault *);
+fv_result fvp_section_open(const void *, size_t, size_t, void *, size_t, fv_contents *, fv_fault *);
 fv_result fvp_depex_evaluate(const void *, size_t, uint32_t, const fv_guid *, size_t, uint32_t *, fv_fault *);
 fv_result fvp_hobs_read(const void *, size_t, fv_hob *, size_t, size_t *, size_t *, fv_fault *);
 
@@ -82,6 +83,7 @@ INLINE void *buffer_of(void *pointer)
 VALUE_CALL(header_read, fv_header)
 VALUE_CALL(volume_is_canonical, uint32_t)
 VALUE_CALL(volume_digest, fv_sha256)
+VALUE_CALL(section_way, fv_way)
 IMAGE_CALL(image_normalise)
 IMAGE_CALL(volume_normalise)
 IMAGE_CALL(volume_unfix)
@@ -102,6 +104,14 @@ fv_result fv_volume_compare(const void *first, size_t first_size, const void *se
     CHECK(BYTES(first, first_size), BYTES(second, second_size), BUFFER(text, text_size), RESULT(found));
     return fvp_volume_compare(input(first), first_size, input(second), second_size, buffer_of(text), text_size, found,
                               fault);
+}
+
+fv_result fv_section_open(const void *section, size_t size, size_t limit, void *buffer, size_t buffer_size,
+                          fv_contents *found, fv_fault *fault)
+{
+    NEEDS_FAULT(fv_section_open(section, size, limit, buffer, buffer_size, found, &unwanted))
+    CHECK(BYTES(section, size), BUFFER(buffer, buffer_size), RESULT(found));
+    return fvp_section_open(input(section), size, limit, buffer_of(buffer), buffer_size, found, fault);
 }
 
 fv_result fv_depex_evaluate(const void *expression, size_t size, uint32_t phase, const fv_guid *installed,

@@ -48,6 +48,11 @@ static const struct entry entries[] = {
     {FV_FAULT_HOB_FIRST, "the first block is not a hand-off information table"},
     {FV_FAULT_HOB_SHAPE, "the length of a block is wrong for its type"},
     {FV_FAULT_HOB_NO_END, "the list has no end block"},
+    {FV_FAULT_OPEN_SHORT, "the section is cut short"},
+    {FV_FAULT_OPEN_WAY, "the way to open the section is not known"},
+    {FV_FAULT_OPEN_DAMAGED, "the packed data are damaged"},
+    {FV_FAULT_OPEN_SUM, "the CRC32 of the contents is wrong"},
+    {FV_FAULT_OPEN_TOO_LONG, "the contents are longer than the limit"},
 };
 
 const char *fv_result_text(fv_result result)

@@ -15,6 +15,8 @@
     fv.volume_tree(volume)          a volume, its files, their sections, and the same for each volume in a section
     fv.volume_tree_digests(volume)  the SHA-256 digest for each row of the tree
     fv.volume_extract(volume, row)  the bytes of the part in that row of the tree
+    fv.section_way(data)            how a packed section is opened, and how long its contents are said to be
+    fv.section_open(data, limit)    the contents of a packed section: compressed, or defined by a GUID
     fv.sections_tree(sections)      the tree of a stream of sections, which is what a compressed section holds
     fv.sections_tree_digests(sections), fv.sections_extract(sections, row)     the same for the rows of this tree
     fv.depex_evaluate(data, phase)  the truth value of a dependency expression
@@ -24,8 +26,8 @@
 
 The functions have the names of the calls in fv.h, without `fv_`. (fv_guid_text and fv_guid_parse have no function here:
 a GUID is a uuid.UUID.) An `image` may be any bytes, a `volume` must be exactly one volume, and `sections` must be
-exactly one stream of sections. `data` begin with the volume or the list that is read, and the bytes after it are
-ignored.
+exactly one stream of sections. `data` begin with the volume, the section or the list that is read, and the bytes after
+it are ignored.
 
 An input may be any object with the buffer protocol: bytes, bytearray, memoryview, mmap. A bytes object is read in
 place, and so is a memoryview of a bytes object. Any other buffer is copied first, since something else may write to it
@@ -64,6 +66,8 @@ from ._calls import (
     image_check,
     image_normalise,
     image_scan,
+    section_open,
+    section_way,
     sections_extract,
     sections_tree,
     sections_tree_digests,
@@ -81,15 +85,15 @@ from ._calls import (
 )
 from ._errors import Error, Fault, FaultError
 from ._library import Buffer, result_text
-from ._native import LENGTH_MAX, CellKind, Content, FaultCode, FileType, NodeKind, Phase, SectionType
-from ._types import Cell, Header, Hob, HobList, Node, VolumeCheck
+from ._native import LENGTH_MAX, CellKind, Content, FaultCode, FileType, NodeKind, Phase, SectionType, Way
+from ._types import Cell, Header, Hob, HobList, Node, Opened, Packed, VolumeCheck
 
 __version__ = "2.1.0.dev0"
 __all__ = [
     "LENGTH_MAX", "Buffer", "Cell", "CellKind", "Content", "Error", "Fault", "FaultCode", "FaultError", "FileType",
-    "Header", "Hob", "HobList", "Node", "NodeKind", "Phase", "SectionType", "VolumeCheck", "depex_evaluate",
-    "header_read", "hobs_read", "image_check", "image_normalise", "image_scan", "result_text", "sections_extract",
-    "sections_tree", "sections_tree_digests", "version", "version_number", "volume_cells", "volume_compare",
-    "volume_digest", "volume_extract", "volume_is_canonical", "volume_normalise", "volume_tree", "volume_tree_digests",
-    "volume_unfix",
+    "Header", "Hob", "HobList", "Node", "NodeKind", "Opened", "Packed", "Phase", "SectionType", "VolumeCheck", "Way",
+    "depex_evaluate", "header_read", "hobs_read", "image_check", "image_normalise", "image_scan", "result_text",
+    "section_open", "section_way", "sections_extract", "sections_tree", "sections_tree_digests", "version",
+    "version_number", "volume_cells", "volume_compare", "volume_digest", "volume_extract", "volume_is_canonical",
+    "volume_normalise", "volume_tree", "volume_tree_digests", "volume_unfix",
 ]  # fmt: skip

@@ -13,18 +13,22 @@ from . import _native as native
 from ._errors import FAULT_SIZE, error_of
 from ._library import Buffer, Held, lib, new_bytes, result_text, unchanging
 from ._native import Phase
-from ._types import Cell, Header, Hob, HobList, Node, VolumeCheck
+from ._types import WAYS, Cell, Header, Hob, HobList, Node, Opened, Packed, VolumeCheck
 from ._types import Cells, Checks, Digests, Headers, Hobs, Nodes, Rows
 
 # The first buffer for rows has room for a row for each 8 bytes of the input (a section with a body takes at least 8
 # bytes), but for at most 65,536 rows. Memory that a call does not write to costs little.
 BYTES_OF_ROW, MOST_ROOM = 8, 65_536
 GUID_SIZE = 16
+# The first buffer for the contents of a section has room for what the header promises, but for at most this many bytes
+# and this many times the bytes of the section, because a hostile header may promise any number.
+FIRST_CONTENTS, EXPANSION = 1 << 20, 16
 # A view of fewer bytes is copied, because this takes less time than to get its address.
 LEAST_HELD = 4096
 # A call writes its results to new bytes objects, which take less time to make than objects of ctypes. These are the
-# results that are not rows: a number of 64 bits, a number of 32 bits, and a comparison.
+# results that are not rows: a number of 64 bits, a number of 32 bits, a comparison, and those of packed sections.
 _SIZE, _U32, _COMPARISON = struct.Struct("=Q"), struct.Struct("=I"), struct.Struct(native.COMPARISON_FORMAT)
+_WAY, _CONTENTS = struct.Struct(native.WAY_FORMAT), struct.Struct(native.CONTENTS_FORMAT)
 _TRUE = _U32.pack(1)
 _TRUTHS = {
     _U32.pack(native.DEPEX_FALSE): False,
@@ -188,6 +192,39 @@ def volume_extract(volume: Buffer, row: SupportsIndex, *, copy: bool = True) -> 
     Raises IndexError if there is no row with this number. If a volume in the part does not fit (NO_ROOM,
     TOP_ALIGNMENT), the depth of the fault counts only groups and opened volumes inside the part."""
     return _over(volume, copy, _part, lib.fv_volume_extract, _number(row))
+
+
+def section_way(section: Buffer, *, copy: bool = True) -> Packed:
+    """Returns what the header of the packed section with which the data begin says about its contents. Decodes
+    nothing. A packed section is a compression section or a GUID-defined section."""
+    promised, data_offset, way = _WAY.unpack(_found(_WAY.size, section, copy, lib.fv_section_way))
+    return Packed(None if promised == native.NO_LENGTH else promised, data_offset, WAYS.get(way, way))
+
+
+def _opened(address: Any, size: int, limit: int) -> Opened:
+    """Returns the contents of a section. The first buffer has room for what the header promises, if that is not more
+    than the section could well hold. Calls again if the buffer is too small."""
+    found, fault = bytes(_WAY.size), bytes(FAULT_SIZE)
+    if result := lib.fv_section_way(address, size, found, fault):
+        raise error_of(result, fault)
+    room = min(_WAY.unpack(found)[0], limit, FIRST_CONTENTS + EXPANSION * size)
+    found = bytes(_CONTENTS.size)
+    while result := lib.fv_section_open(address, size, limit, buffer := new_bytes(room), room, found, fault):
+        if result != native.BUFFER_TOO_SMALL:
+            raise error_of(result, fault)
+        room = _CONTENTS.unpack(found)[0]
+    length, way = _CONTENTS.unpack(found)
+    return Opened(buffer[:length], WAYS.get(way, way))
+
+
+def section_open(section: Buffer, limit: SupportsIndex = native.LENGTH_MAX, *, copy: bool = True) -> Opened:
+    """Returns the contents of the packed section with which the data begin, and the way that gave them. The contents
+    are often a stream of sections, for sections_tree. Raises a FaultError (OPEN_TOO_LONG) if they have more than
+    `limit` bytes. No signature is verified."""
+    most = operator.index(limit)
+    if most < 0:
+        raise ValueError("the limit is negative")
+    return _over(section, copy, _opened, min(most, 2**63 - 1))
 
 
 def sections_tree(sections: Buffer, *, copy: bool = True) -> Sequence[Node]:

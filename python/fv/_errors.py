@@ -26,8 +26,8 @@ class Fault:
 
     @property
     def number(self) -> int:
-        """Returns the number of the fault in docs/FAULTS.md and in the lines of fvtool. Volumes, dependency expressions
-        and hand-off lists are numbered separately."""
+        """Returns the number of the fault in docs/FAULTS.md and in the lines of fvtool. Volumes, dependency
+        expressions, hand-off lists and packed sections are numbered separately."""
         return self.code & 0xFF
 
     @property

@@ -18,6 +18,7 @@ LENGTH_MAX = 268435456
 DIFFERENCE_SIZE = 553
 GUID_TEXT_SIZE = 37
 NO_PARENT = 2**64 - 1
+NO_LENGTH = 2**64 - 1
 
 # The results of calls, except the faults.
 OK = 0
@@ -43,6 +44,8 @@ COMPARISON_FORMAT = "=QI4x"
 CELL_FORMAT = "=QQIIII16s8x"
 NODE_FORMAT = "=QQQQIIIIII16sI12x"
 HOB_FORMAT = "=QQII8x"
+WAY_FORMAT = "=QQI4x"
+CONTENTS_FORMAT = "=QI4x"
 
 _pointer, _size, _u32, _text = c.c_void_p, c.c_void_p, c.c_uint32, c.c_char_p
 # The type of the result and the types of the parameters of each call. A pointer is an address or bytes. Two things
@@ -65,6 +68,8 @@ CALLS: dict[str, tuple[Any, list[Any]]] = {
     "fv_volume_tree": (_u32, [_pointer, _size, _pointer, _size]),
     "fv_volume_tree_digests": (_u32, [_pointer, _size, _pointer, _size]),
     "fv_volume_extract": (_u32, [_pointer, _size, _size, _pointer, _size]),
+    "fv_section_way": (_u32, [_pointer, _size]),
+    "fv_section_open": (_u32, [_pointer, _size, _size, _pointer, _size]),
     "fv_sections_tree": (_u32, [_pointer, _size, _pointer, _size]),
     "fv_sections_tree_digests": (_u32, [_pointer, _size, _pointer, _size]),
     "fv_sections_extract": (_u32, [_pointer, _size, _size, _pointer, _size]),
@@ -75,7 +80,8 @@ CALLS: dict[str, tuple[Any, list[Any]]] = {
 
 class FaultCode(enum.IntEnum):
     """The codes of the faults. docs/FAULTS.md explains each fault. The codes from 0x200 on are faults of dependency
-    expressions, and those from 0x300 on are faults of hand-off lists."""
+    expressions, those from 0x300 on are faults of hand-off lists, and those from 0x400 on are faults of sections that
+    are opened."""
 
     TRUNCATED = 1
     SIGNATURE = 2
@@ -110,6 +116,11 @@ class FaultCode(enum.IntEnum):
     HOB_FIRST = 0x303
     HOB_SHAPE = 0x304
     HOB_NO_END = 0x305
+    OPEN_SHORT = 0x401
+    OPEN_WAY = 0x402
+    OPEN_DAMAGED = 0x403
+    OPEN_SUM = 0x404
+    OPEN_TOO_LONG = 0x405
 
 
 class CellKind(enum.IntEnum):
@@ -192,3 +203,27 @@ class Phase(enum.IntEnum):
 
     PEI = 0
     DXE = 1
+
+
+class Way(enum.IntEnum):
+    """The ways to open a packed section, which is a section of type 0x01 (compression) or 0x02 (GUID-defined). The
+    contents are as they are in the section with Way.STORED (CompressionType 0); with Way.CRC32, after their CRC32 (the
+    GUID fc1bcdb0-7d31-49aa-936a-a4600d9dd083); with Way.SIGNED, after a signature that is not verified (the GUID
+    0f9d89e8-9259-4f76-a5af-0c89e34023df or, with RSA 2048 and SHA-256, a7717414-c616-4977-9420-844712a735bf); and with
+    Way.PLAIN (any other GUID, if bit 0x01 of Attributes is clear). They are decoded with Way.UEFI, the compression of
+    the UEFI specification; with Way.TIANO, Tiano's form of it (a31280ad-481e-41b6-95e8-127f4c984779); with Way.LZMA
+    (ee4e5898-3914-4259-9d6e-dc7bd79403cf, or 0ed85e23-f253-413f-a03c-901987b04397); and with Way.LZMA_X86 LZMA of x86
+    code (CompressionType 0x86, or d42ae6bd-1352-4bfb-909a-ca72a6eae889). Way.STANDARD (CompressionType 1) is Way.UEFI
+    or Way.TIANO, of which only decoding shows which. Way.CUSTOMIZED (CompressionType 2) is Way.LZMA, maybe after four
+    other bytes. These two are what a header says, and no contents have them."""
+
+    STORED = 1
+    STANDARD = 2
+    UEFI = 3
+    TIANO = 4
+    CUSTOMIZED = 5
+    LZMA = 6
+    LZMA_X86 = 7
+    CRC32 = 8
+    SIGNED = 9
+    PLAIN = 10

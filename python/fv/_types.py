@@ -12,7 +12,7 @@ from typing import Any, ClassVar, TypeVar, overload
 
 from . import _native as native
 from ._errors import Fault, fault_of
-from ._native import CellKind, Content, NodeKind
+from ._native import CellKind, Content, NodeKind, Way
 
 Item = TypeVar("Item")
 
@@ -90,6 +90,25 @@ class Node:
 
 
 @dataclass(frozen=True, slots=True)
+class Packed:
+    """What the header of a packed section says: the length of the contents that it promises (None if it promises
+    none), the offset of the data in the section, and the way to open the section. The contents may have another
+    length."""
+
+    promised: int | None
+    data_offset: int
+    way: Way
+
+
+@dataclass(frozen=True, slots=True)
+class Opened:
+    """The contents of a packed section, and the way that gave them."""
+
+    contents: bytes
+    way: Way
+
+
+@dataclass(frozen=True, slots=True)
 class Hob:
     """A block of a hand-off list: the base address and the length of the volume that it describes (None if it does not
     describe one), HobType and HobLength."""
@@ -113,6 +132,7 @@ class HobList:
 CELL_KINDS = {it.value: it for it in CellKind}
 NODE_KINDS = {it.value: it for it in NodeKind}
 CONTENTS = {it.value: it for it in Content}
+WAYS = {it.value: it for it in Way}
 # The value in a row if a part does not have a GUID or a digest.
 _NO_GUID, _NO_DIGEST = bytes(16), bytes(32)
 

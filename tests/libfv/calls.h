@@ -31,6 +31,12 @@ static uint8_t stream[DATA_LEN];
 #define NAME_BYTES {11, 12, 13, 14, 15, 16, 17, 18, 19, 20, 21, 22, 23, 24, 25, 26}
 static const uint8_t name[16] = NAME_BYTES;
 
+/* A GUID-defined section, whose data are the LZMA stream that liblzma makes of a section of type 19 with 3 bytes. The
+ * stream does not say how long its contents are. */
+static uint8_t packed[54] = {0x36, 0, 0, 2, 0x98, 0x58, 0x4e, 0xee, 0x14, 0x39, 0x59, 0x42, 0x9d, 0x6e, 0xdc, 0x7b,
+                             0xd7, 0x94, 3, 0xcf, 0x18, 0, 1, 0, 0x5d, 0, 0x10, 0, 0, 255, 255, 255, 255, 255, 255, 255, 255,
+                             0, 3, 0x80, 0x32, 0x73, 0xca, 0xc3, 0xf1, 0xe8, 0xf6, 0x83, 255, 255, 0xec, 0xdf, 0x80, 0};
+
 /* The other inputs: an expression (PUSH of the name, END), a list of its table, a block for a volume and the end block,
  * and a text. */
 static uint8_t expression[18] = {2, 11, 12, 13, 14, 15, 16, 17, 18, 19, 20, 21, 22, 23, 24, 25, 26, 8};
@@ -86,6 +92,8 @@ static union {
 static fv_header header[2];
 static fv_sha256 digest[2];
 static fv_comparison found[2];
+static fv_way way[2];
+static fv_contents contents[2];
 static fv_fault fault[2];
 static fv_guid guid[2];
 static size_t count[2], length[2];
@@ -126,6 +134,8 @@ MAKES(volume_cells, P(0), N(0), P(1), N(1), P(2), P(3))
 MAKES(volume_tree, P(0), N(0), P(1), N(1), P(2), P(3))
 MAKES(volume_tree_digests, P(0), N(0), P(1), N(1), P(2), P(3))
 MAKES(volume_extract, P(0), N(0), N(1), P(2), N(2), P(3), P(4))
+MAKES(section_way, P(0), N(0), P(1), P(2))
+MAKES(section_open, P(0), N(0), N(1), P(2), N(2), P(3), P(4))
 MAKES(sections_tree, P(0), N(0), P(1), N(1), P(2), P(3))
 MAKES(sections_tree_digests, P(0), N(0), P(1), N(1), P(2), P(3))
 MAKES(sections_extract, P(0), N(0), N(1), P(2), N(2), P(3), P(4))
@@ -158,6 +168,8 @@ static const struct call calls[] = {
     CALL(volume_tree, FAULT_TRUNCATED, IN(volume), ROWS(nodes), ONE(count), ITS_FAULT),
     CALL(volume_tree_digests, FAULT_TRUNCATED, IN(volume), ROWS(digests), ONE(count), ITS_FAULT),
     CALL(volume_extract, FAULT_TRUNCATED, IN(volume), VALUE(1), OUT(bytes), ONE(length), ITS_FAULT),
+    CALL(section_way, FAULT_OPEN_SHORT, IN(packed), ONE(way), ITS_FAULT),
+    CALL(section_open, FAULT_OPEN_SHORT, IN(packed), VALUE(100), OUT(bytes), ONE(contents), ITS_FAULT),
     CALL(sections_tree, OK, IN(stream), ROWS(nodes), ONE(count), ITS_FAULT),
     CALL(sections_tree_digests, OK, IN(stream), ROWS(digests), ONE(count), ITS_FAULT),
     CALL(sections_extract, NOT_FOUND, IN(stream), VALUE(1), OUT(bytes), ONE(length), ITS_FAULT),

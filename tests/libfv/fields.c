@@ -1,7 +1,8 @@
 /* SPDX-License-Identifier: BSD-2-Clause-Patent */
 /* Checks results that were worked out by hand, for the volume of calls.h: the rows of its tree, its parts and digests,
- * and a fault, and for the stream of sections in it. Also checks the text of a GUID, and the text of each result. (The checks of tests/fuzz/libfv compare
- * each field of each structure with the bytes of an input.) */
+ * and a fault, and for the stream of sections in it. Also checks the contents of packed sections, the text of a GUID,
+ * and the text of each result. (The checks of tests/fuzz/libfv compare each field of each structure with the bytes of
+ * an input.) */
 #include "calls.h"
 
 enum { ATTRIBUTES = 0x0004feff };
@@ -87,6 +88,73 @@ static void try_stream(void)
     make_both();
 }
 
+/* A section of type 19 with 3 bytes, which packed sections hold. */
+static const uint8_t inner[7] = {7, 0, 0, 0x19, 0xb1, 0xb2, 0xb3};
+
+/* Checks what a header says. */
+static void expect_way(const uint8_t *section, size_t size, fv_way wanted)
+{
+    EXPECT(fv_section_way(section, size, way, fault) == FV_OK && !memcmp(way, &wanted, sizeof wanted));
+}
+
+/* Checks that a section has the contents `inner`, with and without room for them. */
+static void expect_contents(const uint8_t *section, size_t size, uint32_t by)
+{
+    const fv_contents wanted = {sizeof inner, by, 0};
+    memset(&buffer, FILLED, sizeof buffer);
+    EXPECT(fv_section_open(section, size, 7, buffer.bytes, 6, contents, fault) == FV_BUFFER_TOO_SMALL);
+    EXPECT(!memcmp(contents, &wanted, sizeof wanted) && buffer.bytes[0] == FILLED && !fault->result);
+    memset(contents, FILLED, sizeof contents);
+    EXPECT(fv_section_open(section, size, SIZE_MAX, buffer.bytes, 8, contents, fault) == FV_OK);
+    EXPECT(!memcmp(contents, &wanted, sizeof wanted) && !memcmp(buffer.bytes, inner, sizeof inner));
+    EXPECT(buffer.bytes[sizeof inner] == FILLED);
+}
+
+/* Checks that a section of these bytes is not opened, because of this fault, and that nothing else is changed. */
+static void expect_closed(const uint8_t *section, size_t size, size_t limit, fv_result result, uint64_t offset)
+{
+    const fv_fault wanted = {offset, result, 0, 0, 0};
+    memset(&buffer, FILLED, sizeof buffer);
+    memset(contents, FILLED, sizeof contents);
+    memset(way, FILLED, sizeof way);
+    EXPECT(fv_section_open(section, size, limit, buffer.bytes, 100, contents, fault) == result);
+    EXPECT(!memcmp(fault, &wanted, sizeof wanted) && contents->way == FILLED * 0x01010101u);
+    EXPECT(buffer.bytes[0] == FILLED);
+    if (result > FV_FAULT_OPEN_WAY) return;
+    EXPECT(fv_section_way(section, size, way, fault) == result && !memcmp(fault, &wanted, sizeof wanted));
+    EXPECT(way->way == FILLED * 0x01010101u);
+}
+
+/* Checks packed sections: LZMA, stored, and with a CRC32, which is the one of zlib. */
+static void try_packed(void)
+{
+    uint8_t stored[17] = {16, 0, 0, 1, 9, 0, 0, 0, 0}, summed[35], bad[54];
+    memcpy(stored + 9, inner, sizeof inner);
+    put(summed, "23000002b0cd1bfc317daa49936aa4600d9dd0831c000000ce43dd35");
+    memcpy(summed + 28, inner, sizeof inner);
+    memcpy(bad, packed, sizeof bad);
+    begin("what headers say");
+    expect_way(packed, sizeof packed, (fv_way){FV_NO_LENGTH, 24, FV_WAY_LZMA, 0});
+    expect_way(stored, sizeof stored, (fv_way){9, 9, FV_WAY_STORED, 0});
+    expect_way(summed, sizeof summed, (fv_way){7, 28, FV_WAY_CRC32, 0});
+    begin("contents");
+    expect_contents(packed, sizeof packed, FV_WAY_LZMA);
+    expect_contents(stored, sizeof stored, FV_WAY_STORED); /* the last byte is not read */
+    expect_contents(summed, sizeof summed, FV_WAY_CRC32);
+    begin("sections that are not opened");
+    expect_closed(packed, 53, 7, FV_FAULT_OPEN_SHORT, 0);
+    expect_closed(inner, sizeof inner, 7, FV_FAULT_OPEN_WAY, 3);
+    expect_closed(stored, sizeof stored, 6, FV_FAULT_OPEN_TOO_LONG, 9);
+    bad[24] = 225; /* the properties of LZMA are below 225 */
+    expect_closed(bad, sizeof bad, 7, FV_FAULT_OPEN_DAMAGED, 24);
+    summed[30]++;
+    expect_closed(summed, sizeof summed, 7, FV_FAULT_OPEN_SUM, 24);
+    summed[20] = 27; /* DataOffset, within the sum */
+    expect_closed(summed, sizeof summed, 7, FV_FAULT_OPEN_SHORT, 20);
+    stored[8] = 3;
+    expect_closed(stored, sizeof stored, 7, FV_FAULT_OPEN_WAY, 8);
+}
+
 /* Checks that a call rejects a volume whose group has a section that does not fit, and changes nothing else. */
 static void expect_fault(fv_result result, uint32_t input)
 {
@@ -129,9 +197,10 @@ static void try_texts(void)
         EXPECT(it && *it);
         known += strcmp(it, none) != 0;
     }
-    EXPECT(known == 25 + 4 + 5 + 5);
+    EXPECT(known == 25 + 4 + 5 + 5 + 5);
     EXPECT(!strcmp(fv_result_text(FV_OK), "done") && !strcmp(fv_result_text(UINT32_MAX), none));
     EXPECT(strcmp(fv_result_text(FV_FAULT_HOB_NO_END), none) && strcmp(fv_result_text(FV_BAD_ARGUMENT), none));
+    EXPECT(strcmp(fv_result_text(FV_FAULT_OPEN_TOO_LONG), none));
     EXPECT(fv_version_number() == FV_VERSION_NUMBER && !strcmp(fv_version(), FV_VERSION));
     EXPECT(FV_VERSION_NUMBER == (FV_VERSION_MAJOR << 16 | FV_VERSION_MINOR << 8 | FV_VERSION_PATCH));
 }
@@ -141,6 +210,7 @@ int main(void)
     make_both();
     try_tree();
     try_stream();
+    try_packed();
     try_fault();
     try_guid();
     try_texts();

@@ -6,6 +6,7 @@ from collections.abc import Iterator
 from pathlib import Path
 
 import rows
+from tests import making
 from tests.fuzz.cases import make_case
 
 # The files of rows whose words spell the input of a run or of a call.
@@ -60,10 +61,21 @@ def images() -> Iterator[bytes]:
     yield from (number * rows.spelled("ext-header-bare") for number in range(1, 6))
 
 
+def packed() -> Iterator[bytes]:
+    """Yields packed sections of each way, and one that is not opened."""
+    data = making.stream(making.ui("Packed"), making.section(making.RAW, b"contents" * 9))
+    uefi, tiano, lzma = making.packed_by_tiano(data, 4), making.packed_by_tiano(data, 5), making.compressed(data)[24:]
+    yield from (making.compression(data), making.compression(uefi, len(data), 1), making.compression(b"", 0))
+    yield from (making.compression(tiano, len(data), 1), making.guided(making.TIANO, tiano))
+    yield from (making.compression(lzma, len(data), 2), making.compression(b"\xff\0\0\0" + lzma, len(data), 2))
+    yield from (making.compressed(data), making.compressed_code(data), making.checked(data), making.checked(data, 1))
+    yield from (making.guided(making.UNKNOWN, data, 0), making.guided(making.UNKNOWN, data))
+
+
 def small_files(folder: Path) -> list[Path]:
     """Writes the small inputs to a folder, each once."""
     texts = (it.encode() for it in TEXTS)
-    found = dict.fromkeys([*PAIR, *made(7, 60), *spelled(), *expressions(), *images(), *texts, b""])
+    found = dict.fromkeys([*PAIR, *made(7, 60), *spelled(), *expressions(), *images(), *packed(), *texts, b""])
     files = []
     for number, data in enumerate(data for data in found if len(data) <= SMALL):
         files.append(folder / f"{number}.input")

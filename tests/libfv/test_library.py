@@ -19,7 +19,7 @@ ARCHIVE = LIBRARY.with_name("libfv.a")
 CC, CXX = os.environ.get("CC", "cc"), os.environ.get("CXX", "c++")
 WARN = ["-O1", "-g", "-Wall", "-Wextra", "-Werror", "-pedantic", f"-I{ROOT / 'libfv/include'}"]
 SANITIZED = {"ASAN_OPTIONS": "detect_leaks=0:allocator_may_return_null=1", "UBSAN_OPTIONS": "halt_on_error=1"}
-PLANTS = range(1, 21)
+PLANTS = range(1, 24)
 LONG = 4_000_000  # bytes; longer made inputs are not shown to the examples
 
 
@@ -76,7 +76,7 @@ class Calls(Compiled):
         program = self.build("threads", HERE / "threads.c", "-pthread", *options, compiler=compiler)
         for name, data in ("empty", rows.spelled("empty")), ("nested", making.IMAGES["nested.fv"]()[:20000]):
             (self.room / name).write_bytes(data)
-            text = f"threads: 4 of {turns} turns each, with 17 calls, 0 wrong"
+            text = f"threads: 4 of {turns} turns each, with 22 calls, 0 wrong"
             self.expect(0, text, program, self.room / name, str(turns))
 
     def test_threads(self) -> None:
@@ -109,19 +109,19 @@ class Calls(Compiled):
 class Examples(Compiled):
     """The four examples write the same."""
 
-    def examples(self) -> dict[str, list[str | Path]]:
-        """Returns the commands of the examples, by language. Each one that cannot be built is missing."""
-        found: dict[str, list[str | Path]] = {"C": [self.build("volumes-c", ROOT / "examples/volumes.c")]}
-        found["Python"] = ["python3", ROOT / "examples/volumes.py"]
-        if can_compile("c++", CXX):
-            source = ROOT / "examples/volumes.cc"
-            found["C++"] = [self.build("volumes-cc", source, compiler=CXX, standard="c++17")]
+    def examples(self, name: str) -> dict[str, list[str | Path]]:
+        """Returns the commands of the examples of this name, by language. Each one that cannot be built is missing."""
+        found: dict[str, list[str | Path]] = {"C": [self.build(f"{name}-c", ROOT / f"examples/{name}.c")]}
+        found["Python"] = ["python3", ROOT / f"examples/{name}.py"]
+        source = ROOT / f"examples/{name}.cc"
+        if source.exists() and can_compile("c++", CXX):
+            found["C++"] = [self.build(f"{name}-cc", source, compiler=CXX, standard="c++17")]
         if shutil.which("cargo"):
             manifest, target = ROOT / "rust/Cargo.toml", self.room / "rust"
-            words = "cargo build --quiet --offline --locked --example volumes --manifest-path".split()
+            words = ["cargo", "build", "--quiet", "--offline", "--locked", "--example", name, "--manifest-path"]
             environment = {"LIBFV_DIR": str(ARCHIVE.parent), "CARGO_TARGET_DIR": str(target)}
             self.expect(0, "", *words, manifest, env=environment)
-            found["Rust"] = [target / "debug/examples/volumes"]
+            found["Rust"] = [target / f"debug/examples/{name}"]
         return found
 
     def inputs(self) -> dict[str, tuple[int, str]]:
@@ -148,7 +148,7 @@ class Examples(Compiled):
 
     def test_same(self) -> None:
         environment = {"LIBFV": str(LIBRARY), "LD_LIBRARY_PATH": str(LIBRARY.parent)}
-        examples = self.examples()
+        examples = self.examples("volumes")
         for path, (status, end) in [*self.inputs().items(), ("", (2, "usage: volumes IMAGE\n"))]:
             usual = None
             for language, words in examples.items():
@@ -161,6 +161,26 @@ class Examples(Compiled):
         missing = {"C", "C++", "Python", "Rust"} - examples.keys()
         if missing:
             self.skipTest(f"not built: {', '.join(missing)}")
+
+    def test_drivers(self) -> None:
+        """The examples list the same files, also those in compressed sections and in sections inside these."""
+        environment = {"LIBFV": str(LIBRARY), "LD_LIBRARY_PATH": str(LIBRARY.parent)}
+        examples = self.examples("drivers")
+        for name, data, some in (
+            ("firmware", making.firmware(), ["06 Pei0", "07 Dxe4", "07 Own", f"0b {making.guid(7)}"]),
+            ("deep", making.deep(), ["07 Core"]),
+            ("damaged", making.damaged(), []),
+            ("nothing", b"", []),
+        ):
+            (self.room / name).write_bytes(data)
+            found = set()
+            for language, words in examples.items():
+                said = self.run_command(*words, self.room / name, env=environment)
+                with self.subTest(language, image=name):
+                    self.assertEqual((said.returncode, said.stderr), (0, ""))
+                    self.assertEqual([it for it in some if it not in said.stdout.splitlines()], [])
+                found.add(said.stdout)
+            self.assertEqual(len(found), 1, found)
 
 
 @needs_library

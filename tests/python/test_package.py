@@ -33,7 +33,8 @@ import rows
 from fv import _errors, _library, _native, names
 from tests.checks import ROOT, read
 from tests.frame import RoomCase, needs_library, needs_tool
-from tests.python.outcomes import OF_IMAGE, OF_SECTIONS, OF_VOLUME, Call, grouped, outcome, raised, volume_of
+from tests.python.outcomes import CONTENTS, OF_IMAGE, OF_SECTION, OF_SECTIONS, OF_VOLUME, Call, grouped, outcome
+from tests.python.outcomes import packings, raised, volume_of
 
 PACKAGE = Path(fv.__file__).parent
 HEADER = read(ROOT / "libfv/include/fv.h")
@@ -77,7 +78,7 @@ class Names(unittest.TestCase):
     def test_calls(self) -> None:
         declared = re.findall(r"\bFV_(?:API|CHECKED)_ [^;]*?\b(fv_\w+)\(", HEADER)
         named = [it for it in declared if not it.startswith("fv_guid_")]  # the module uuid has the same
-        self.assertEqual((len(declared), sorted(named)), (20, sorted(_native.CALLS)))
+        self.assertEqual((len(declared), sorted(named)), (25, sorted(_native.CALLS)))
         public = set(fv.__all__) - {it.removeprefix("fv_") for it in named}
         self.assertEqual(len(public), len(fv.__all__) - len(named))
         self.assertTrue(all(isinstance(getattr(fv, it), type) for it in public - {"Buffer", "LENGTH_MAX"}))
@@ -92,7 +93,7 @@ class Names(unittest.TestCase):
 
     def test_codes(self) -> None:
         self.assertEqual(constants("FAULT"), {it.name: it for it in fv.FaultCode})
-        self.assertEqual(len(fv.FaultCode), 33)
+        self.assertEqual(len(fv.FaultCode), 38)
         fault = _errors.fault_of(7, 99, 1, 0)  # a newer library may have other codes
         self.assertEqual((fault, type(fault.code)), (fv.Fault(99, 7, 1), int))
 
@@ -234,6 +235,9 @@ class Values(unittest.TestCase):
             (fv.depex_evaluate, (b"\x06\x08",), ValueError, (2, 2**32, 2**32 + 1, -1)),
             (fv.volume_extract, (VOLUME,), IndexError, (3, 2**64 + 2, 2**64, 2**64 - 1, -1)),
             (fv.volume_extract, (b"bad",), fv.FaultError, (9,)),
+            (fv.section_open, (packings()[0].section,), TypeError, (1.0, "1", None)),
+            (fv.section_open, (packings()[0].section,), ValueError, (-1,)),
+            (fv.section_open, (b"bad",), fv.FaultError, (9, 0)),
             (fv.sections_extract, (b"\5\0\0\x19z",), TypeError, (1.0, "1", None)),
             (fv.sections_extract, (b"\5\0\0\x19z",), IndexError, (1, 2**64, 2**64 - 1, -1)),
             (fv.sections_extract, (b"bad",), fv.FaultError, (9,)),
@@ -305,6 +309,7 @@ class Values(unittest.TestCase):
         self.assertEqual((listed.length, listed.blocks), (88, blocks))
         firsts = [call(data)[0] for call in (fv.image_scan, fv.volume_tree, fv.volume_cells)]
         values = [*firsts, listed.blocks[0], fv.image_check(data + wrong)[1], listed]
+        values += [fv.section_way(packings()[0].section), fv.section_open(packings()[0].section)]
         self.assertTrue(all(map(is_frozen, values)) and len({*values[:5]}) == 5)
         self.assertTrue(all(copied == value for value in values for copied in again(value)))
 
@@ -354,7 +359,7 @@ class Buffers(unittest.TestCase):
     """Each kind of buffer is read, and no buffer is changed."""
 
     def test_kinds(self) -> None:
-        calls: list[Call] = [*OF_VOLUME, *OF_SECTIONS, *OF_IMAGE, fv.header_read]
+        calls: list[Call] = [*OF_VOLUME, *OF_IMAGE, fv.header_read]
         wanted = [call(VOLUME) for call in calls]
         with tempfile.TemporaryFile() as file:
             file.write(VOLUME)
@@ -376,6 +381,14 @@ class Buffers(unittest.TestCase):
             del data, kinds[:]
             for it in maps:
                 it.close()  # no call has kept a view
+
+    def test_kinds_of_sections(self) -> None:
+        for calls, data in (OF_SECTION, packings()[4].section), (OF_SECTIONS, CONTENTS):
+            wanted = [call(data) for call in calls]
+            for it in (bytearray(data), memoryview(data), memoryview(bytearray(b"odd" + data))[3:], Longer(data)):
+                for copied in (False, True):
+                    self.assertEqual([call(it, copy=copied) for call in calls], wanted)
+                self.assertEqual(bytes(memoryview(it)), data)
 
     def test_empty(self) -> None:
         for empty in (b"", bytearray(), memoryview(b""), memoryview(bytearray(VOLUME))[5:5]):

@@ -12,11 +12,14 @@ from collections.abc import Iterator
 
 import fv
 import rows
+from fv import opened
+from fv.limits import Budget, Limits
+from tests import making
 from tests.frame import needs_library
 from tests.fuzz.cases import make_case
 from tests.program.test_rows import Run, row_cases
 from tests.python import said
-from tests.python.outcomes import made, outcome, place, streams
+from tests.python.outcomes import CONTENTS, closed, made, outcome, packings, place, streams
 
 NO_ROOM, TOP_ALIGNMENT = 22, 23
 # The rows whose runs are about files and arguments, and the options of other runs that the program has by itself.
@@ -237,6 +240,67 @@ class Streams(unittest.TestCase):
             self.assertEqual(found if level == 8 else len(found), wanted if level == 8 else level + 1)
         self.assertEqual(place(fv.sections_tree, bytes(fv.LENGTH_MAX + 1)), (8, fv.LENGTH_MAX, 0))
         self.assertEqual([*fv.sections_tree(b"")], [])
+
+
+def packed_of(image: bytes) -> Iterator[tuple[fv.Node, bytes]]:
+    """Yields the packed sections of an image that no other packed section holds: their rows, and their bytes."""
+    for header in fv.image_scan(image):
+        volume = outcome(fv.volume_unfix, image[header.offset : header.offset + header.length])
+        nodes = volume if isinstance(volume, fv.Fault) else outcome(fv.volume_tree, volume)
+        for it in () if isinstance(nodes, fv.Fault) else nodes:
+            if it.kind is fv.NodeKind.SECTION and it.efi_type in opened.PACKED:
+                yield it, volume[it.offset - it.header_length : it.offset + it.length]
+
+
+@needs_library
+class Packed(unittest.TestCase):
+    """Packed sections, which liblzma, zlib and tests/making.py have made, and those of made images."""
+
+    def test_contents(self) -> None:
+        """A section has its contents, if the limit allows them. Bytes after the section are not read."""
+        for number, it in enumerate(packings()):
+            with self.subTest(number, way=it.way):
+                for data in (it.section, it.section + b"more"):
+                    self.assertEqual(fv.section_way(data), fv.Packed(it.promised, it.data_offset, it.says))
+                    for limit in (len(CONTENTS), len(CONTENTS) + 1, 2**70):
+                        self.assertEqual(fv.section_open(data, limit), fv.Opened(CONTENTS, it.way))
+                self.assertEqual(fv.section_open(it.section), fv.Opened(CONTENTS, it.way))
+                # A stream after four bytes has the fault of the bytes before it.
+                code = fv.FaultCode.OPEN_DAMAGED if it.is_after_four else fv.FaultCode.OPEN_TOO_LONG
+                for limit in (0, len(CONTENTS) - 1):
+                    fault = outcome(fv.section_open, it.section, limit)
+                    self.assertEqual((fault.code, fault.depth), (code, 0))
+
+    def test_faults(self) -> None:
+        for data, code, offset in closed():
+            with self.subTest(data[:40].hex()):
+                wanted = fv.Fault(code, offset)
+                self.assertEqual(outcome(fv.section_open, data), wanted)
+                if code in (fv.FaultCode.OPEN_SHORT, fv.FaultCode.OPEN_WAY):
+                    self.assertEqual(outcome(fv.section_way, data), wanted)
+                else:
+                    self.assertIsInstance(fv.section_way(data), fv.Packed)
+
+    def test_images(self) -> None:
+        """The packed sections of made images have the contents that the modules lzma and zlib find, and fv.opened."""
+        tried = 0
+        for name, make in making.IMAGES.items():
+            data = make()
+            for node, section in packed_of(data):
+                with self.subTest(name, offset=node.offset):
+                    found = outcome(fv.section_open, section)
+                    body, budget = section[node.header_length :], Budget(Limits(), len(data))
+                    try:
+                        _, wanted, doubts = opened.open_section(node.efi_type or 0, node.header_length, body, budget)
+                    except opened.Closed:
+                        self.assertTrue(isinstance(found, fv.Fault) or found.way in (fv.Way.SIGNED, fv.Way.PLAIN))
+                        continue
+                    tried += 1
+                    if "the CRC32 is wrong" in doubts:
+                        self.assertEqual(found.code, fv.FaultCode.OPEN_SUM)
+                    else:
+                        self.assertEqual(found.contents, wanted)
+        self.assertGreater(tried, 5)
 
 
 @needs_library

@@ -4,7 +4,7 @@
 //! digits, a number, or PEI. For each line this program writes the result in the form of `Debug`.
 
 use fv::depex::{evaluate, Phase};
-use fv::{header, hobs, image, sections, volume, Error, Guid};
+use fv::{header, hobs, image, section, sections, volume, Error, Guid};
 use std::fmt::Debug;
 use std::io::{stdin, stdout, BufWriter, Write};
 
@@ -42,6 +42,8 @@ fn result_of(call: &str, words: &[&str]) -> String {
         ("volume_tree", []) => shown(volume::tree(input)),
         ("volume_tree_digests", []) => shown(volume::tree_digests(input)),
         ("volume_extract", [row]) => shown(volume::extract(input, row.parse().expect("a row"))),
+        ("section_way", []) => shown(section::way(input)),
+        ("section_open", [limit]) => shown(section::open(input, limit.parse().expect("a limit"))),
         ("sections_tree", []) => shown(sections::tree(input)),
         ("sections_tree_digests", []) => shown(sections::tree_digests(input)),
         ("sections_extract", [row]) => shown(sections::extract(input, row.parse().expect("a row"))),

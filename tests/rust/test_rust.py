@@ -20,7 +20,7 @@ import rows
 from tests.checks import ROOT, read
 from tests.frame import LIBRARY, RoomCase, needs_library, needs_tool
 from tests.libfv.inputs import spelled
-from tests.python.outcomes import OF_IMAGE, OF_SECTIONS, OF_VOLUME, made, outcome, streams, volume_of
+from tests.python.outcomes import OF_IMAGE, OF_SECTIONS, OF_VOLUME, closed, made, outcome, packings, streams, volume_of
 
 RUST = ROOT / "rust"
 # The longest input of the rows that is passed to the calls.
@@ -85,6 +85,9 @@ def requests() -> Iterator[Request]:
         count = 0 if isinstance(nodes, fv.Fault) else len(nodes)
         yield from (("volume_extract", (data, row)) for row in {*range(min(count, 30)), count, 2**64 - 1})
     yield from (("volume_compare", it) for it in comparisons())
+    for section in (*(it.section for it in packings()), *(data for data, _, _ in closed())):
+        yield "section_way", (section,)
+        yield from (("section_open", (section, limit)) for limit in (0, 100, 2**20))
 
 
 def word(argument: Any) -> str:
@@ -103,7 +106,7 @@ def debug(value: Any, is_option: bool = False) -> str:
         kind = fv.FaultCode(value.code).name.title().replace("_", "")
         return f"Fault {{ kind: {kind}, offset: {value.offset}, depth: {value.depth}, input: {value.input} }}"
     if isinstance(value, (bool, enum.Enum)):
-        return str(value).lower() if isinstance(value, bool) else value.name.title()
+        return str(value).lower() if isinstance(value, bool) else value.name.title().replace("_", "")
     if dataclasses.is_dataclass(value):
         fields = ((it.name, getattr(value, it.name), "None" in str(it.type)) for it in dataclasses.fields(value))
         shown = ", ".join(f"{name}: {debug(it, is_optional)}" for name, it, is_optional in fields)

@@ -10,6 +10,7 @@ constants! {
     u32: FV_DIFFERENCE_SIZE = 553;
     u32: FV_GUID_TEXT_SIZE = 37;
     u64: FV_NO_PARENT = u64::MAX;
+    u64: FV_NO_LENGTH = u64::MAX;
     fv_result: FV_OK = 0, FV_FAULT_TRUNCATED = 1, FV_FAULT_SIGNATURE = 2, FV_FAULT_FILE_SYSTEM = 3,
         FV_FAULT_REVISION = 4, FV_FAULT_HEADER_LENGTH = 5, FV_FAULT_HEADER_SUM = 6, FV_FAULT_BLOCK_MAP = 7,
         FV_FAULT_LENGTH = 8, FV_FAULT_EXT_HEADER = 9, FV_FAULT_FILE_STATE = 10, FV_FAULT_FILE_HEADER_SUM = 11,
@@ -20,7 +21,8 @@ constants! {
         FV_BAD_GUID = 0x103, FV_FAULT_DEPEX_SHORT = 0x201, FV_FAULT_DEPEX_OPCODE = 0x202, FV_FAULT_DEPEX_STACK = 0x203,
         FV_FAULT_DEPEX_NO_END = 0x204, FV_FAULT_DEPEX_POSITION = 0x205, FV_FAULT_HOB_SHORT = 0x301,
         FV_FAULT_HOB_LENGTH = 0x302, FV_FAULT_HOB_FIRST = 0x303, FV_FAULT_HOB_SHAPE = 0x304,
-        FV_FAULT_HOB_NO_END = 0x305;
+        FV_FAULT_HOB_NO_END = 0x305, FV_FAULT_OPEN_SHORT = 0x401, FV_FAULT_OPEN_WAY = 0x402,
+        FV_FAULT_OPEN_DAMAGED = 0x403, FV_FAULT_OPEN_SUM = 0x404, FV_FAULT_OPEN_TOO_LONG = 0x405;
     u32: FV_CELL_FILE = 1, FV_CELL_PAD = 2, FV_CELL_DELETED = 3, FV_CELL_UNFINISHED = 4, FV_CELL_FREE = 5;
     u32: FV_NODE_VOLUME = 1, FV_NODE_FILE = 2, FV_NODE_SECTION = 3;
     u32: FV_CONTENT_FILES = 0, FV_CONTENT_BYTES = 1, FV_CONTENT_SECTIONS = 2, FV_CONTENT_VOLUME = 3;
@@ -36,6 +38,8 @@ constants! {
         FV_SECTION_PEI_DEPEX = 0x1B, FV_SECTION_MM_DEPEX = 0x1C;
     u32: FV_PHASE_PEI = 0, FV_PHASE_DXE = 1;
     u32: FV_DEPEX_FALSE = 0, FV_DEPEX_TRUE = 1, FV_DEPEX_ORDER = 2;
+    u32: FV_WAY_STORED = 1, FV_WAY_STANDARD = 2, FV_WAY_UEFI = 3, FV_WAY_TIANO = 4, FV_WAY_CUSTOMIZED = 5,
+        FV_WAY_LZMA = 6, FV_WAY_LZMA_X86 = 7, FV_WAY_CRC32 = 8, FV_WAY_SIGNED = 9, FV_WAY_PLAIN = 10;
 }
 
 structures! {
@@ -54,6 +58,8 @@ structures! {
         guid: fv_guid = 56, file_system: u32 = 72, reserved: [u32; 3] = 76;
     fv_hob, 32, 8: volume_base: u64 = 0, volume_length: u64 = 8, hob_type: u32 = 16, hob_length: u32 = 20,
         reserved: u64 = 24;
+    fv_way, 24, 8: promised: u64 = 0, data_offset: u64 = 8, way: u32 = 16, reserved: u32 = 20;
+    fv_contents, 16, 8: length: u64 = 0, way: u32 = 8, reserved: u32 = 12;
 }
 
 extern "C" {
@@ -85,6 +91,9 @@ extern "C" {
         count: *mut usize, fault: *mut fv_fault) -> fv_result;
     pub fn fv_volume_extract(volume: *const c_void, size: usize, row: usize, buffer: *mut c_void, buffer_size: usize,
         length: *mut usize, fault: *mut fv_fault) -> fv_result;
+    pub fn fv_section_way(section: *const c_void, size: usize, way: *mut fv_way, fault: *mut fv_fault) -> fv_result;
+    pub fn fv_section_open(section: *const c_void, size: usize, limit: usize, buffer: *mut c_void, buffer_size: usize,
+        found: *mut fv_contents, fault: *mut fv_fault) -> fv_result;
     pub fn fv_sections_tree(sections: *const c_void, size: usize, rows: *mut fv_node, room: usize, count: *mut usize,
         fault: *mut fv_fault) -> fv_result;
     pub fn fv_sections_tree_digests(sections: *const c_void, size: usize, rows: *mut fv_sha256, room: usize,

@@ -63,8 +63,15 @@ pub(crate) fn rows<T: Row>(call: RowsCall<T::Raw>, input: &[u8]) -> Result<Vec<T
 }
 
 /// A call that writes the part of a row of its input.
-type PartCall =
-    unsafe extern "C" fn(*const c_void, usize, usize, *mut c_void, usize, *mut usize, *mut sys::fv_fault) -> sys::fv_result;
+type PartCall = unsafe extern "C" fn(
+    *const c_void,
+    usize,
+    usize,
+    *mut c_void,
+    usize,
+    *mut usize,
+    *mut sys::fv_fault,
+) -> sys::fv_result;
 
 /// Returns the bytes of the part of a row, which a call writes.
 pub(crate) fn part(call: PartCall, input: &[u8], row: usize) -> Result<Vec<u8>, Error> {

@@ -14,7 +14,8 @@ macro_rules! fault_kinds {
         /// kind.
         ///
         /// Kinds of volumes and images have no prefix. The kinds that begin with `Depex` belong to
-        /// dependency expressions, and the kinds that begin with `Hob` to hand-off lists.
+        /// dependency expressions, the kinds that begin with `Hob` to hand-off lists, and the kinds
+        /// that begin with `Open` to sections that are opened.
         #[derive(Clone, Copy, Debug, PartialEq, Eq, Hash)]
         #[non_exhaustive]
         pub enum FaultKind {
@@ -118,6 +119,16 @@ fault_kinds! {
     HobShape = FV_FAULT_HOB_SHAPE,
     /// The list has no end block.
     HobNoEnd = FV_FAULT_HOB_NO_END,
+    /// The section is cut short, or its data begin outside of it.
+    OpenShort = FV_FAULT_OPEN_SHORT,
+    /// The way to open the section is not known.
+    OpenWay = FV_FAULT_OPEN_WAY,
+    /// The packed data are damaged.
+    OpenDamaged = FV_FAULT_OPEN_DAMAGED,
+    /// The CRC32 of the contents is wrong.
+    OpenSum = FV_FAULT_OPEN_SUM,
+    /// The contents are longer than the limit.
+    OpenTooLong = FV_FAULT_OPEN_TOO_LONG,
 }
 
 impl fmt::Display for FaultKind {
@@ -259,7 +270,7 @@ mod tests {
     #[test]
     fn kinds_have_their_numbers() {
         let codes: Vec<u32> = KINDS.iter().map(|it| it.code()).collect();
-        let wanted = (1..=23).chain(0x201..=0x205).chain(0x301..=0x305);
+        let wanted = (1..=23).chain(0x201..=0x205).chain(0x301..=0x305).chain(0x401..=0x405);
         assert_eq!(codes, wanted.collect::<Vec<u32>>());
         assert!(KINDS.iter().all(|it| FaultKind::of(it.code()) == *it));
         assert_eq!(FaultKind::of(0x207), FaultKind::Other(0x207));

@@ -22,6 +22,8 @@
 //! | What is in a volume, at every level? | [`volume::tree`] |
 //! | Which digest does each of these parts have? | [`volume::tree_digests`] |
 //! | What are the bytes of one of these parts? | [`volume::extract`] |
+//! | How is a packed section opened? How long is it then? | [`section::way`] |
+//! | What are the contents of a packed section? | [`section::open`] |
 //! | What is in a stream of sections, at every level? | [`sections::tree`] |
 //! | Which digest does each of these parts have? | [`sections::tree_digests`] |
 //! | What are the bytes of one of these parts? | [`sections::extract`] |
@@ -59,6 +61,7 @@ pub mod depex;
 pub mod header;
 pub mod hobs;
 pub mod image;
+pub mod section;
 pub mod sections;
 pub mod volume;
 

@@ -8,7 +8,7 @@
 //! Only [`cells`] accepts bytes after the volume. All other functions reject them with
 //! [`FaultKind::Length`](crate::FaultKind::Length).
 
-use crate::call::{self, address, filled};
+use crate::call::{self, address};
 use crate::error::check;
 use crate::row::{guid_or_none, kinds, narrow, range, row};
 use crate::{Error, Guid};

@@ -25,7 +25,17 @@ enum {
 };
 
 /* The low bits of MODE. 0 to 2 are AS_VOLUME. */
-enum { AS_VOLUME, AS_IMAGE = 3, AS_EXPRESSION, AS_HAND_OFF_LIST, AS_PAIR, AS_IMAGE_AND_VOLUME, AS_SECTIONS, MODES };
+enum {
+    AS_VOLUME,
+    AS_IMAGE = 3,
+    AS_EXPRESSION,
+    AS_HAND_OFF_LIST,
+    AS_PAIR,
+    AS_IMAGE_AND_VOLUME,
+    AS_SECTIONS,
+    AS_PACKED,
+    MODES
+};
 /* This bit of MODE places the data and each buffer at the start of a page, and the page before it cannot be touched.
  * Otherwise they end at the end of a page. */
 #define AT_START 0x80
@@ -57,6 +67,7 @@ void try_image(const uint8_t *bytes, size_t len, const uint8_t *parameters);
 void try_expression(const uint8_t *bytes, size_t len, const uint8_t *parameters);
 void try_hand_off_list(const uint8_t *bytes, size_t len, const uint8_t *parameters);
 void try_sections(const uint8_t *bytes, size_t len, const uint8_t *parameters);
+void try_packed(const uint8_t *bytes, size_t len, const uint8_t *parameters);
 void try_pair(const uint8_t *bytes, size_t len, const uint8_t *parameters);
 void try_guid(const uint8_t *bytes, size_t len);
 

@@ -12,6 +12,7 @@ static void try_input(const uint8_t *bytes, size_t len, const uint8_t *parameter
     case AS_HAND_OFF_LIST: try_hand_off_list(bytes, len, parameters); break;
     case AS_PAIR: try_pair(bytes, len, parameters); break;
     case AS_SECTIONS: try_sections(bytes, len, parameters); break;
+    case AS_PACKED: try_packed(bytes, len, parameters); break;
     case AS_IMAGE_AND_VOLUME: try_image(bytes, len, parameters); /* fall through */
     default: try_volume(bytes, len, parameters);
     }

@@ -132,7 +132,8 @@ static size_t mutate_data(uint8_t *data, size_t len, size_t most, uint8_t *param
         return len;
     case AS_HAND_OFF_LIST:
         return len >= 64 && one_in(3) ? repeat_block(data, len, most) : LLVMFuzzerMutate(data, len, most);
-    case AS_SECTIONS: return LLVMFuzzerMutate(data, len, most);
+    case AS_SECTIONS:
+    case AS_PACKED: return LLVMFuzzerMutate(data, len, most);
     case AS_IMAGE:
     case AS_PAIR: return mutate_image(data, len, most, parameters);
     case AS_IMAGE_AND_VOLUME:
@@ -154,7 +155,7 @@ size_t LLVMFuzzerCustomMutator(uint8_t *data, size_t size, size_t most, unsigned
     if (one_in(40))
         data[MODE] = (data[MODE] & AT_START) | ONE_OF(0, 0, 0, 0, 0, 0, 0, AS_IMAGE, AS_IMAGE, AS_IMAGE, AS_EXPRESSION,
                                                       AS_HAND_OFF_LIST, AS_PAIR, AS_PAIR, AS_PAIR, AS_IMAGE_AND_VOLUME,
-                                                      AS_SECTIONS);
+                                                      AS_SECTIONS, AS_PACKED);
     size_t len = size - PARAMETERS, most_data = most - PARAMETERS;
     if (most_data > MOST_DATA) most_data = MOST_DATA;
     if (len > most_data) len = most_data;

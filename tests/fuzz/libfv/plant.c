@@ -27,7 +27,10 @@ enum {
     THIRD_NAME,      /* the name of the third of several volumes that are found is zeros */
     FIRST_PARENT,    /* the third row of a stream, if no row holds it, has the parent 0 */
     THIRD_DIGEST,    /* the last byte of the third digest of a stream is wrong, if this row has a digest */
-    SECOND_PART      /* the last byte of the part of the second row of a stream is wrong */
+    SECOND_PART,     /* the last byte of the part of the second row of a stream is wrong */
+    LATE_DATA,       /* the data of a compression section of CompressionType 0 are one byte later */
+    LONGER_LIMIT,    /* section_open opens contents that are one byte longer than the limit */
+    LAST_CONTENT     /* the last byte of contents that are stored as they are is wrong */
 };
 
 #define WRAPS(call) __typeof__(call) __wrap_##call, __real_##call
@@ -39,6 +42,8 @@ WRAPS(fv_image_check);
 WRAPS(fv_volume_tree);
 WRAPS(fv_volume_tree_digests);
 WRAPS(fv_volume_extract);
+WRAPS(fv_section_way);
+WRAPS(fv_section_open);
 WRAPS(fv_sections_tree);
 WRAPS(fv_sections_tree_digests);
 WRAPS(fv_sections_extract);
@@ -160,6 +165,24 @@ fv_result __wrap_fv_volume_extract(const void *volume, size_t size, size_t row, 
     if (planted() == SHORT_VOLUME && !result && row && *length > 60 && !memcmp(part + SIGNATURE, "_FVH", 4))
         part[*length - 1] ^= 0x10;
     if (planted() == FIFTH_PART && !result && row == 5 && *length) part[*length - 1] ^= 1;
+    return result;
+}
+
+fv_result __wrap_fv_section_way(const void *section, size_t size, fv_way *way, fv_fault *fault)
+{
+    fv_result result = __real_fv_section_way(section, size, way, fault);
+    if (planted() == LATE_DATA && !result && way->way == FV_WAY_STORED) way->data_offset++;
+    return result;
+}
+
+fv_result __wrap_fv_section_open(const void *section, size_t size, size_t limit, void *buffer, size_t buffer_size,
+                                 fv_contents *found, fv_fault *fault)
+{
+    if (planted() == LONGER_LIMIT) limit++;
+    fv_result result = __real_fv_section_open(section, size, limit, buffer, buffer_size, found, fault);
+    uint8_t *contents = buffer;
+    if (planted() == LAST_CONTENT && !result && found->way == FV_WAY_STORED && found->length)
+        contents[found->length - 1] ^= 1;
     return result;
 }
 

@@ -12,9 +12,10 @@ from pathlib import Path
 
 from tests.fuzz.cases import make_case
 from tests.fuzz.maker import Maker
-from tests.making import FFS3, RAW, VOLUME, section, stream, volume
+from tests.making import FFS3, RAW, VOLUME, compressed, compression, section, stream, volume
 
-AS_VOLUME, AS_EXPRESSION, AS_HAND_OFF_LIST, AS_PAIR, AS_IMAGE_AND_VOLUME, AS_SECTIONS = 0, 4, 5, 6, 7, 8  # as in harness.h
+# as in harness.h
+AS_VOLUME, AS_EXPRESSION, AS_HAND_OFF_LIST, AS_PAIR, AS_IMAGE_AND_VOLUME, AS_SECTIONS, AS_PACKED = 0, 4, 5, 6, 7, 8, 9
 MODES = {"volume": AS_VOLUME, "image": AS_IMAGE_AND_VOLUME, "list": AS_HAND_OFF_LIST}
 SEED, CASES, EXPRESSIONS = 7, 300, 20
 MOST = 4000  # bytes; a small input is tried more often
@@ -49,6 +50,8 @@ def few() -> Iterator[tuple[str, bytes]]:
     yield "image", bytes([AS_IMAGE_AND_VOLUME]) + none_refused + empty
     yield "pair", bytes([AS_PAIR, 1]) + none_refused[1:] + empty + empty
     yield "sections", bytes([AS_SECTIONS]) + none_refused + stream(section(RAW, b"raw"), section(VOLUME, empty))
+    yield "packed", bytes([AS_PACKED]) + none_refused + compression(section(RAW, b"raw"))
+    yield "lzma", bytes([AS_PACKED]) + none_refused + compressed(section(RAW, b"raw"))
     yield "expression", bytes([AS_EXPRESSION]) + none_refused + b"\x06\x08"
 
 

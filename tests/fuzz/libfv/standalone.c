@@ -1,14 +1,15 @@
 /* SPDX-License-Identifier: BSD-2-Clause-Patent */
 /* standalone FILE..: tries each file with all checks of the harness, without libFuzzer: as an image and a volume, as an
- * expression, as a hand-off list, as a stream of sections, and after the file before it as a pair. Each is tried in all forms of the parameters,
- * and with each allocation of each call refused in turn.
+ * expression, as a hand-off list, as a stream of sections, as a packed section, and after the file before it as a pair.
+ * Each is tried in all forms of the parameters, and with each allocation of each call refused in turn.
  *   standalone --changes FILE..   tries each file with each of its bits flipped, and each of its beginnings
  *   standalone --texts            tries a GUID with each character in each place, and cut short */
 #include "harness.h"
 #include <limits.h>
 
 enum { FORMS = 16, NONE_REFUSED = INT_MAX };
-static const uint8_t modes[] = {AS_IMAGE_AND_VOLUME, AS_EXPRESSION, AS_HAND_OFF_LIST, AS_PAIR, AS_SECTIONS};
+static const uint8_t modes[] = {AS_IMAGE_AND_VOLUME, AS_EXPRESSION, AS_HAND_OFF_LIST,
+                                AS_PAIR,             AS_SECTIONS,   AS_PACKED};
 
 static uint8_t given[PARAMETERS + 2 * MOST_INPUT], *const data = given + PARAMETERS;
 
