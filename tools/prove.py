@@ -46,7 +46,7 @@ BUILDS = {"fv_tool": "./fvtool < crates/fv_tool/stdin", "fv_c": "libfv/build"}
 # of the work depend on this. A crate that is not listed takes USUAL.
 SECONDS = {
     "fv_base": 60, "fv_head": 100, "fv_file": 80, "fv_section": 45, "fv_depex": 60, "fv_hob": 75, "fv_text": 50, "fv_names": 45,
-    "fv_placement": 35, "fv_sinks": 20, "fv_flash": 15, "fv_lzma": 180, "fv_tree": 215, "fv_rows": 35, "fv_compare": 45,
+    "fv_placement": 35, "fv_sinks": 20, "fv_flash": 15, "fv_packed": 25, "fv_lzma": 165, "fv_tree": 215, "fv_rows": 35, "fv_compare": 45,
     "fv_lines": 95, "fv_canon": 190, "fv_plan": 20, "fv_arguments": 100, "fv_command": 190, "fv_tool": 110, "fv_c": 150,
 }  # fmt: skip
 USUAL = 60

@@ -1,0 +1,8 @@
+-- The definitions, in reading order.
+pub mod OpenFaults
+pub mod Ways
+pub mod SectionStreams
+pub mod Headers
+pub mod Contents
+pub mod Words
+pub mod inner
