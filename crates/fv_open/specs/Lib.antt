@@ -4,5 +4,6 @@ pub mod Ways
 pub mod SectionStreams
 pub mod Headers
 pub mod Contents
+pub mod OpenedFrames
 pub mod Words
 pub mod inner

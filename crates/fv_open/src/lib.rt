@@ -4,16 +4,18 @@
 
 mod encapsulation;
 mod fault;
+mod frames;
 pub mod further_laws;
 mod offsets;
-mod opening;
 mod opened;
+mod opening;
 mod sections;
 mod unpack;
 mod way;
 
 pub use encapsulation::{Encapsulation, way_of};
 pub use fault::{OpenFault, OpenFaultKind};
-pub use opening::open;
+pub use frames::open_frame;
 pub use opened::Opened;
+pub use opening::open;
 pub use way::Way;
