@@ -1,8 +1,10 @@
 //! Opening a section whose header is already read.
 
-ghost use Rattle.std.specs.Prelude.{◌≡◌, ◌⊎◌, Ok, Err, IfOk, IfErr};
-ghost use Rattle.fv_section.specs.Words.{frame_form};
+ghost use Rattle.std.specs.Prelude.{◌≡◌, ◌≤◌, ◌⊎◌, Ok, Err, true, IfOk, IfErr, IsOkAnd};
+ghost use Rattle.fv_section.specs.Words.{frame_form, frame_len};
 ghost use Rattle.fv_open.specs.Contents.{opened_form};
+ghost use Rattle.fv_open.specs.Headers.{head_in};
+ghost use Rattle.fv_open.specs.Ways.{is_decoded};
 ghost use Rattle.fv_open.specs.OpenFaults.{open_out_of_memory};
 ghost use Rattle.fv_open.specs.OpenedFrames.{opened_frame};
 
@@ -32,6 +34,13 @@ pub fn open_frame<'a>(
     // The error is the first fault of the section, or memory ran out.
     ensures none { IfErr result (λ f. (f ≡ open_out_of_memory)
         ⊎ (opened_frame limit (frame_form section.now) ≡ Err f)) }
+
+    // Memory runs out only if the contents have to be decoded.
+    ensures memory { IfErr result (λ f. f ≡ open_out_of_memory
+        → IsOkAnd (head_in (frame_form section.now)) (λ e. is_decoded e.way ≡ true)) }
+
+    // The place of a fault is within the section.
+    ensures bound { IfErr result (λ f. f.offset ≤ frame_len (frame_form section.now)) }
 {
     let head = head_in(section)?;
     contents(alloc, section, head, limit)
