@@ -51,7 +51,10 @@ _fvtool() {
             --at) choices=$(_fvtool_offsets 1) ;;
             --other-at) choices=$(_fvtool_offsets 2) ;;
             --name) choices=$(_fvtool_names) ;;
-            --section) choices='01 02 03 10 11 12 13 14 15 16 17 18 19 1b 1c' ;;
+            --section)
+                choices='01 02 03 10 11 12 13 14 15 16 17 18 19 1b 1c'
+                if [[ ${COMP_WORDS[1]} == open ]]; then choices=; fi
+                ;;
             --instance | --base) choices= ;;
             --image) return ;;
             *)

@@ -59,6 +59,7 @@ _fvtool() {
             _arguments '--name[the name of the file]:name:_fvtool_names' $at $hex '1:file:_files' \
                 "--section[the type of the section]:type:$sections" '--instance[which of these sections]:number:'
             ;;
+        open) _arguments $at $hex '1:file:_files' '--section[the numbers of the section in list]:path:' ;;
         scan) _arguments $hex '1:file:_files' ;;
         compare)
             _arguments $at '--other-at[the same of the second input]:offset: _fvtool_offsets 2' $hex \

@@ -32,9 +32,12 @@ INPUTS = {
     "second": SECOND,
     "both": f"{FIRST} {SECOND}",
     "two": "two-sections two-sections",
+    "packed": "3b00000298584eee143959429d6edc7bd79403cf180001005d000001000e 00*8 028032736bad5480bbd8b10ce74014ffffb7460000",
+    "parts": "packed-sections",
 }
 # The lines that report a failed allocation, and the runs that may write them.
 WANT = ["fault 24 at 0"]
+OPENS = [*WANT, "section fault 6 at 0"]
 SIDES, HOBS = [*WANT, "first fault 24 at 0", "second fault 24 at 0"], [*WANT, "hob fault 6 at 0"]
 NAME = "0a0a0a0a-0a0a-0a0a-0a0a-0a0a0a0a0a0a"
 EXTRACT = f"extract --name {NAME}"
@@ -43,6 +46,7 @@ RUNS = [
     *((WANT, f"{command} volume") for command in (*WHOLE, f"{EXTRACT} --section 19")),
     *((WANT, command) for command in ("scan both", "check depex", "check --all both")),
     *((SIDES, f"compare {names}") for names in ("volume depex", "volume volume", "first second", "first first")),
+    *((OPENS, f"open {words}") for words in ("packed", "--section 0.1 parts")),
     *((HOBS, f"hobs {words}list") for words in ("", "--image volume --base 16711680 ")),
 ]
 # The crates of tests that have tests of failed allocations, which are in files memory.rt, and their built tests.

@@ -30,10 +30,10 @@ from tests.checks import ROOT, read
 from tests.frame import PROGRAM, needs_program
 
 # The number of rows in all files, and the files, by their names and headings.
-ROWS = 1101
+ROWS = 1208
 FILES = {path.stem: rows.tables(path.stem) for path in sorted(rows.FOLDER.glob("*.rows"))}
 # The files whose rows describe runs of a command.
-RUNS = ["normalise", "extract", "scan", "hobs", "list", "sums", "check", "cells", "unfix", "compare", "placed", "text"]
+RUNS = ["normalise", "extract", "scan", "hobs", "list", "sums", "check", "cells", "unfix", "open", "compare", "placed", "text"]
 # The files of the crate's tests that have rows.
 TESTS = ["volumes", "command/other_runs", "command/opened_runs"]
 NAME = "0a0a0a0a-0a0a-0a0a-0a0a-0a0a0a0a0a0a"
@@ -90,6 +90,8 @@ def options(name: str, words: list[str]) -> list[str]:
         byte, section, instance = words
         found += ["--name", NAME.replace("0a", byte), "--instance", instance]
         found += [] if section == "-" else ["--section", section]
+    elif name == "open":
+        found += [it for word in words for it in ("--section", word)]
     elif name == "hobs" and words:
         found += ["--image", "second", "--base", words[0]]
     return found

@@ -169,6 +169,10 @@ WRONG: list[tuple[list[str], str]] = [
     (["extract", "--name", "a"], "invalid value 'a' for '--name'"),
     (["extract", "--name", GUID, "--section", "0x10"], "invalid value '0x10' for '--section'"),
     (["extract", "--name", GUID, "--instance", "0x1"], "invalid value '0x1' for '--instance'"),
+    (["open", "--section", "0x1"], "invalid value '0x1' for '--section'"),
+    (["open", "--section", "0."], "invalid value '0.' for '--section'"),
+    (["open", "--at", "-", "--section", "1.+2"], "invalid value '1.+2' for '--section'"),
+    (["open", "--at", "x"], "invalid value 'x' for '--at'"),
     (["hobs", "--image", "a", "--base", "0x10"], "invalid value '0x10' for '--base'"),
     (["hobs", "--image", "a"], "'--image' and '--base' must be given together"),
     (["check", "--all", "--at", "0"], "'--all' and '--at' cannot be given together"),
@@ -199,6 +203,9 @@ NO_IMAGE = "fvtool list and fvtool compare need no image"
 # The header of a volume of 128 bytes, with a header length of 2112 bytes.
 LONG_HEADER = "00*16 78e58c8c3d8a1c4f9935896185c32dd3 80 00*7 5f465648fffe0400 4008cef500000002 0100000080000000 00*8"
 LENGTH = "the length in the header of a volume is wrong"
+WAYS = "man fvtool lists the ways; fv-unpack knows others"
+# A GUID-defined section whose LZMA stream does not begin with a zero byte after its header.
+DAMAGED = "2a00000298584eee143959429d6edc7bd79403cf180001005d000001 00*9 0100000000"
 TWO, FOLLOW = "two-sections two-sections", "bytes follow the volume"
 # Inputs that are rejected: the words of the rows that spell each, the command, in which FILE is the input and VOLUME a
 # volume as text, the fault, and what to do next. The meaning of the fault is in FAULTS, unless it is given.
@@ -223,6 +230,10 @@ REJECTIONS: list[tuple[str, ...]] = [
     ("nine-groups", "list FILE", "fault 21 at 128", "treat the input as hostile"),
     ("ext-header-without-room", "normalise FILE", "fault 22 at 0", NO_IMAGE),
     ("top-misaligned", "normalise FILE", "fault 23 at 0", NO_IMAGE),
+    ("head-sum-off-by-one", "open --section 0.0 FILE", "fault 6 at 0", SOURCE),
+    ("0500001958", "open FILE", "section fault 2 at 3", WAYS, "the way to open the section is not known"),
+    ("05000001", "open FILE", "section fault 1 at 0", SOURCE, "the section is cut short"),
+    (DAMAGED, "open FILE", "section fault 3 at 37", SOURCE, "the packed data are damaged: the data are damaged"),
 ]
 
 

@@ -1,8 +1,8 @@
 -- Arguments that are rejected as wrong are not right arguments. Either the reader finds a fault in them (`rejected`); or
 -- a text in them cannot be read, although it can be read in right arguments (`no_input`, `right_part`, `right_image`,
--- `right_volumes`); or an offset is given together with `--all` (`no_place`).
+-- `right_path`, `right_volumes`); or an offset is given together with `--all` (`no_place`).
 use Rattle.std.proofs.Common.{◌≡◌, ◌≢◌, ◌&&◌, ◌||◌, ℕ, [], ◌∷◌, ◌∙◌, Bool, List, IfErr, Result, Ok, Err, Option, Some, None, ap, codes, inl, inr}
-use Rattle.std.proofs.Common.{drop, not, refl, subst, sym, true, false, true≢false, Global, IsErrAnd, String, is_some}
+use Rattle.std.proofs.Common.{drop, not, refl, subst, sym, true, false, true≢false, Global, IsErrAnd, String, Vec, is_some}
 use Rattle.fv_base.proofs.Laws.{IfErr-weaker, bytes_eq-Decides, bytes_eq}
 use Rattle.clap.specs.Values.{kind_of}
 use Rattle.clap.specs.Words.{App, HasKind, Kinds, fault_of, is_simple_and_free}
@@ -12,11 +12,11 @@ use Rattle.fv_plan.specs.declared.plan.Command.{Command}
 use Rattle.fv_plan.specs.declared.plan.ImageFile.{ImageFile}
 use Rattle.fv_plan.specs.declared.plan.Part.{Part}
 use Rattle.fv_plan.specs.declared.plan.VolumeFile.{VolumeFile}
-use Rattle.fv_plan.specs.declared.plan.Command.TheVariants.{Single, Hobs, Compare}
+use Rattle.fv_plan.specs.declared.plan.Command.TheVariants.{Single, Hobs, Open, Compare}
 use Rattle.fv_plan.specs.declared.plan.Task.TheVariants.{Normalise, NormaliseAll, Extract, Check, CheckAll, Cells, Unfix, Scan}
 use Rattle.fv_arguments.proofs.ArgumentReadLemmas.{by_name, faults_read}
 use Rattle.fv_arguments.specs.Words.{compare_app, extract_app, faults_in, flag_in, hobs_app, image_app, text_in, HasInput, HasTexts, IsAtWord}
-use Rattle.fv_arguments.specs.Words.{IsImageWords, IsPartBy, IsVolumeWords, command_app, command_name}
+use Rattle.fv_arguments.specs.Words.{IsImageWords, IsPartBy, IsPathWord, IsVolumeWords, command_app, command_name, open_app}
 use Rattle.fv_arguments.specs.declared.words.WordFault.{WordFault}
 use Rattle.fv_arguments.specs.inner.CommandWords.{AreRightFor, AsksOrFails, IsParsed, ParsesOrFails, app_named}
 use Rattle.fv_arguments.specs.declared.words.WordFault.TheVariants.{Words, OutOfMemory}
@@ -89,6 +89,7 @@ right_input name rest volume right =
     go (Single Unfix at file) volume texts = ((at, file), texts)
     go (Single Scan at file) volume texts = absurd (true≢false (sym volume))
     go (Single task at file) volume texts = ((at, file), texts.1)
+    go (Open path at file) volume texts = ((at, file), texts.0)
     go c volume texts = absurd (true≢false (sym volume))
 
 -- so a command on one volume is rejected if its input is rejected
@@ -143,6 +144,18 @@ right_image rest right = go right.0.command right.1.command right.1.texts
   where
     go : (c : Command) → codes "hobs" ≡ command_name c → HasTexts rest c → SomeImage rest
     go (Hobs file image) is texts = (image, texts.1)
+    go (Single Normalise at file) is texts = absurd (other _ _ refl is)
+    go c is texts = absurd (other _ _ refl is)
+
+-- the arguments have a path for `open`, or none
+abbrev pub SomePath : List (List ℕ) → Type 0
+SomePath rest = (path : Option (Vec ℕ Global)) × IsPathWord (text_in open_app (codes "section") rest) path
+
+pub right_path : (rest : List (List ℕ)) → AreRightFor (codes "open") rest → SomePath rest
+right_path rest right = go right.0.command right.1.command right.1.texts
+  where
+    go : (c : Command) → codes "open" ≡ command_name c → HasTexts rest c → SomePath rest
+    go (Open path at file) is texts = (path, texts.1)
     go (Single Normalise at file) is texts = absurd (other _ _ refl is)
     go c is texts = absurd (other _ _ refl is)
 

@@ -1,6 +1,8 @@
 -- Which plan a command line asks for.
 use Rattle.std.specs.Prelude.{◌≡◌, ◌<◌, ◌≤◌, ◌^◌, ◌++◌, ◌⊎◌, ℕ, true, false, List, [], ◌∷◌, length}
 use Rattle.std.specs.Prelude.{Option, Some, None, IfSome, IsSomeAnd, String, codes, option_and_then, option_map}
+use Rattle.std.specs.Prelude.{◌==◌, Bool, Vec}
+use Rattle.std.specs.List.{before_first, after_first}
 use Rattle.std.specs.Str.Parse.{IsNumeral, digits_value, without_leading_plus}
 use Rattle.std.specs.Global.{Global}
 use Rattle.std.specs.String.{string_bytes}
@@ -12,8 +14,9 @@ use Rattle.fv_plan.specs.declared.plan.ImageFile.{ImageFile}
 use Rattle.fv_plan.specs.declared.plan.Plan.{Plan}
 use Rattle.fv_plan.specs.declared.plan.VolumeFile.{VolumeFile}
 use Rattle.fv_arguments.specs.Options.{compare_app, extract_app, faults_in, flag_in, hobs_app, list_app, image_app, one_input_app}
+use Rattle.fv_arguments.specs.Options.{open_app}
 use Rattle.fv_arguments.specs.Options.{text_in, volume_app}
-use Rattle.fv_plan.specs.declared.plan.Command.TheVariants.{Single, Hobs, Compare}
+use Rattle.fv_plan.specs.declared.plan.Command.TheVariants.{Single, Hobs, Open, Compare}
 use Rattle.fv_plan.specs.declared.plan.Task.TheVariants.{Normalise, NormaliseAll, List as Listing, ListSums, Extract, Check}
 use Rattle.fv_plan.specs.declared.plan.Task.TheVariants.{CheckAll, Cells, Unfix, Scan}
 
@@ -34,6 +37,7 @@ command_name (Single Cells at file) = codes "cells"
 command_name (Single Unfix at file) = codes "unfix"
 command_name (Single Scan at file) = codes "scan"
 command_name (Hobs file image) = codes "hobs"
+command_name (Open path at file) = codes "open"
 command_name (Compare first second) = codes "compare"
 
 -- the rules of the command's arguments
@@ -49,6 +53,7 @@ command_app (Single Cells at file) = volume_app
 command_app (Single Unfix at file) = volume_app
 command_app (Single Scan at file) = one_input_app
 command_app (Hobs file image) = hobs_app
+command_app (Open path at file) = open_app
 command_app (Compare first second) = compare_app
 
 -- the digits spell n in this radix, and n has at most `bits` bits
@@ -77,6 +82,24 @@ abbrev pub IsImageWords : (path base : Option (List ℕ)) → Option ImageFile �
 IsImageWords path base None = (path ≡ None) × (base ≡ None)
 IsImageWords path base (Some image) =
     (path ≡ Some (string_bytes image.path)) × IsSomeAnd base (λ text. IsNumberWord 64 text image.base)
+
+-- the character between two numbers of a path
+abbrev pub is_point : ℕ → Bool
+is_point c = c == 46
+
+-- the text is a path with these numbers: one decimal number below 2 ^ 64, without a sign; or more of them, where the text
+-- before the first point is the first number, and the text after this point has the others
+abbrev pub IsPathText : List ℕ → (path : List ℕ) → Type 0
+IsPathText text [] = ⊥
+IsPathText text (n ∷ []) = IsNumeralOf 10 64 text n
+IsPathText text (n ∷ m ∷ path) =
+    IsNumeralOf 10 64 (before_first is_point text) n × IsPathText (after_first is_point text) (m ∷ path)
+
+-- the path of a section, or None if there is no text
+abbrev pub IsPathWord : Option (List ℕ) → Option (Vec ℕ Global) → Type 0
+IsPathWord None path = path ≡ None
+IsPathWord (Some text) None = ⊥
+IsPathWord (Some text) (Some path) = IsPathText text path.items
 
 -- the byte at which a volume begins, below 2 ^ 64: a decimal number, or `0x` and hexadecimal digits. None if there is no
 -- text
@@ -121,6 +144,8 @@ HasTexts rest (Single Scan at file) =
 HasTexts rest (Hobs file image) =
     (option_map string_bytes file ≡ text_in hobs_app (codes "file") rest)
     × IsImageWords (text_in hobs_app (codes "image") rest) (text_in hobs_app (codes "base") rest) image
+HasTexts rest (Open path at file) =
+    HasInput open_app rest at file × IsPathWord (text_in open_app (codes "section") rest) path
 HasTexts rest (Compare first second) =
     IsVolumeWords (text_in compare_app (codes "first") rest) (text_in compare_app (codes "at") rest) first
     × IsVolumeWords (text_in compare_app (codes "second") rest) (text_in compare_app (codes "other-at") rest) second

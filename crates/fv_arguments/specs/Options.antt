@@ -47,6 +47,10 @@ extract_app =
     with_rule (with_rule (with_rule (with_rule (with_rule flag_app (option_rule (codes "name"))) (option_rule (codes "section")))
     (option_rule (codes "instance"))) (option_rule (codes "at"))) (new_rule (codes "file"))
 
+-- the rules of `open`: a section in an input, or a volume with the path `--section` of a section in it
+abbrev pub open_app : App
+open_app = with_rule (with_rule (with_rule flag_app (option_rule (codes "section"))) (option_rule (codes "at"))) (new_rule (codes "file"))
+
 -- the rules of `compare`: two inputs, each with the byte at which its volume begins (`--at`, `--other-at`)
 abbrev pub compare_app : App
 compare_app =

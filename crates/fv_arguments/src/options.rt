@@ -4,7 +4,7 @@ ghost use Rattle.clap.specs.Words.{App, first_value, found_of};
 ghost use Rattle.fv_arguments.specs.Options.{flag_in};
 ghost use Rattle.fv_arguments.specs.inner.CommandWords.{AreRightFor, AsksOrFails, IsParsed, ParsesOrFails};
 ghost use Rattle.fv_arguments.specs.CommandLines.{AsksBy, HasInput, IsAtWord, IsImageWords, IsInstanceWord, IsNumberWord};
-ghost use Rattle.fv_arguments.specs.CommandLines.{IsNumeralOf, IsPartBy, IsVolumeWords};
+ghost use Rattle.fv_arguments.specs.CommandLines.{IsNumeralOf, IsPartBy, IsPathText, IsPathWord, IsVolumeWords};
 ghost use Rattle.fv_base.specs.Words.{guid_read};
 ghost use Rattle.std.specs.String.{string_bytes};
 ghost use Rattle.std.specs.Prelude.{◌≡◌, ◌≤◌, ℕ, List, Some, codes, drop, length, map, if◌then◌else◌};
@@ -260,6 +260,52 @@ fn extract(alloc: Global, matches: &ArgMatches<'_>) -> Result<Command, WordFault
     Ok(Command::Single { task, at, file })
 }
 
+// Reads a decimal number without a sign.
+pub(crate) fn unsigned_decimal(digits: &str) -> Result<u64, WordFault>
+    ensures { ParsesOrFails (IsNumeralOf 10 64 digits.now) result }
+{
+    if digits.starts_with('+') {
+        return Err(WordFault::Words);
+    }
+    match digits.parse() {
+        Ok(n) => Ok(n),
+        Err(_) => Err(WordFault::Words),
+    }
+}
+
+// Reads the path of a section: decimal numbers with points between them.
+fn section_path(alloc: Global, text: &str) -> Result<Vec<u64>, WordFault>
+    ensures { ParsesOrFails (λ path. IsPathText text.now path.items) result }
+{
+    let mut path = Vec::new(alloc);
+    let mut rest = text;
+    while let Some((number, after)) = rest.split_once('.') {
+        path.push(unsigned_decimal(number)?)?;
+        rest = after;
+    }
+    path.push(unsigned_decimal(rest)?)?;
+    Ok(path)
+}
+
+// Reads the path of a section, or returns None if there is no text.
+fn section_path_of(alloc: Global, text: Option<&str>) -> Result<Option<Vec<u64>>, WordFault>
+    ensures { ParsesOrFails (IsPathWord (option_map (λ s. s.now) text.entry)) result }
+{
+    match text {
+        Some(text) => Ok(Some(section_path(alloc, text)?)),
+        None => Ok(None),
+    }
+}
+
+// Reads the arguments of `open`: a section, or a volume and the path of a section in it.
+fn open_section(alloc: Global, matches: &ArgMatches<'_>) -> Result<Command, WordFault>
+    ensures { AsksOrFails (codes "open") matches.now result }
+{
+    let path = section_path_of(alloc, matches.get_str("section"))?;
+    let (at, file) = input_of(alloc, matches)?;
+    Ok(Command::Open { path, at, file })
+}
+
 // Returns the volume in the file with this path, which must be given, and the byte at which it
 // begins there.
 fn volume_of(alloc: Global, path: Option<&str>, at: Option<&str>) -> Result<VolumeFile, WordFault>
@@ -325,6 +371,7 @@ fn command_of(alloc: Global, name: &str, matches: &ArgMatches<'_>) -> Result<Com
         "unfix" => unfix(alloc, matches),
         "scan" => scan(alloc, matches),
         "compare" => compare(alloc, matches),
+        "open" => open_section(alloc, matches),
         _ => Err(WordFault::Words),
     }
 }

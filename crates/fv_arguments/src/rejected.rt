@@ -4,7 +4,9 @@ ghost use Rattle.fv_arguments.specs.CommandLines.{AreRight};
 ghost use Rattle.std.specs.String.{string_bytes};
 ghost use Rattle.std.specs.Prelude.{IfSome, map};
 
-use crate::options::{decimal, instance_of, name_of, section_type, volume_offset};
+use crate::options::{
+    decimal, instance_of, name_of, section_type, unsigned_decimal, volume_offset,
+};
 use crate::rules::rules_of;
 use crate::words::{WordFault, parse_words};
 use clap::ArgMatches;
@@ -14,11 +16,18 @@ use std::alloc::{AllocError, Global};
 // The options whose values are numbers, digits or GUIDs.
 const OPTIONS: [&str; 6] = ["name", "section", "instance", "at", "other-at", "base"];
 
-// Returns whether this value of an option is right. The value of `--image` is a path, and may be
-// any text.
-fn is_right(option: &str, value: &str) -> bool {
+// Returns whether a text is the path of a section: decimal numbers with points between them.
+fn is_section_path(text: &str) -> bool {
+    text.split('.')
+        .all(|number| unsigned_decimal(number).is_ok())
+}
+
+// Returns whether this value of an option of a command is right. The value of `--image` is the path
+// of a file, and may be any text.
+fn is_right(command: &str, option: &str, value: &str) -> bool {
     match option {
         "name" => name_of(Some(value)).is_ok(),
+        "section" if command == "open" => is_section_path(value),
         "section" => section_type(value).is_some(),
         "instance" => instance_of(Some(value)).is_ok(),
         "base" => decimal(value).is_ok(),
@@ -26,11 +35,11 @@ fn is_right(option: &str, value: &str) -> bool {
     }
 }
 
-// Returns the first option whose value is wrong, and the value.
-fn wrong_value<'a>(matches: &ArgMatches<'a>) -> Option<(&'static str, &'a str)> {
+// Returns the first option of a command whose value is wrong, and the value.
+fn wrong_value<'a>(command: &str, matches: &ArgMatches<'a>) -> Option<(&'static str, &'a str)> {
     for option in OPTIONS {
         match matches.get_str(option) {
-            Some(value) if !is_right(option, value) => return Some((option, value)),
+            Some(value) if !is_right(command, option, value) => return Some((option, value)),
             _ => {}
         }
     }
@@ -52,7 +61,16 @@ fn broken_rule(name: &str) -> &'static str {
 fn is_command(name: &str) -> bool {
     matches!(
         name,
-        "normalise" | "list" | "cells" | "unfix" | "extract" | "check" | "scan" | "compare" | "hobs"
+        "normalise"
+            | "list"
+            | "cells"
+            | "unfix"
+            | "extract"
+            | "open"
+            | "check"
+            | "scan"
+            | "compare"
+            | "hobs"
     )
 }
 
@@ -85,7 +103,7 @@ fn reason(alloc: Global, name: &str, words: &[String]) -> Result<String, AllocEr
         Ok(matches) => matches,
         Err(error) => return parser_reason(alloc, error),
     };
-    match wrong_value(&matches) {
+    match wrong_value(name, &matches) {
         Some((option, value)) => format!(in alloc; "invalid value '{value}' for '--{option}'"),
         None => String::from_str(alloc, broken_rule(name)),
     }

@@ -1,7 +1,8 @@
 //! The rules of the commands: the flags, options and files that each command takes.
 
 ghost use Rattle.clap.specs.Words.{App, Rule, app_of, new_rule, rule_of, with_rule};
-ghost use Rattle.fv_arguments.specs.Options.{compare_app, extract_app, flag_app, flag_rule, hobs_app, option_rule};
+ghost use Rattle.fv_arguments.specs.Options.{compare_app, extract_app, flag_app, flag_rule, hobs_app, open_app};
+ghost use Rattle.fv_arguments.specs.Options.{option_rule};
 ghost use Rattle.fv_arguments.specs.inner.CommandWords.{app_named};
 ghost use Rattle.std.specs.Prelude.{◌≡◌, codes, false, IfOk};
 
@@ -80,6 +81,14 @@ fn extract_rules<'a>(alloc: Global) -> Result<Command<'a>, AllocError>
     add_volume(alloc, instance)
 }
 
+// Makes the rules of `open`: a section in an input, or a volume and the path of a section in it.
+fn open_rules<'a>(alloc: Global) -> Result<Command<'a>, AllocError>
+    ensures { IfOk result (λ c. app_of c ≡ open_app) }
+{
+    let section = add(text_rules(alloc), option(alloc, "section"));
+    add_volume(alloc, section)
+}
+
 // Makes the rules of `compare`, which has two inputs. Whether both are named is checked after
 // parsing.
 fn compare_rules<'a>(alloc: Global) -> Result<Command<'a>, AllocError>
@@ -103,6 +112,7 @@ pub(crate) fn rules_of<'a>(alloc: Global, name: &str) -> Result<Command<'a>, All
         "hobs" => hobs_rules(alloc),
         "extract" => extract_rules(alloc),
         "compare" => compare_rules(alloc),
+        "open" => open_rules(alloc),
         "scan" => add(text_rules(alloc), Arg::new(alloc, "file")),
         _ => add_volume(alloc, text_rules(alloc)),
     }

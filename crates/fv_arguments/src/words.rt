@@ -6,7 +6,7 @@ ghost use Rattle.fv_arguments.specs.CommandLines.{AreRight, Asks, plan_without_a
 
 use crate::options::parse_command;
 use fv_plan::{Command, Plan, Task};
-use std::alloc::{AllocError, Global};
+use std::alloc::{AllocError, AllocFailed, Global};
 use std::io;
 use std::io::ErrorKind;
 
@@ -40,6 +40,17 @@ impl From<AllocError> for WordFault {
     ghost from_gives = { λ _ f. f ≡ OutOfMemory };
 
     fn from(_error: AllocError) -> WordFault {
+        WordFault::OutOfMemory
+    }
+}
+
+/// A value for which there was no memory becomes OutOfMemory.
+impl<T: Drop> From<AllocFailed<T>> for WordFault {
+    ghost use Rattle.fv_arguments.specs.declared.words.WordFault.TheVariants.{OutOfMemory};
+
+    ghost from_gives = { λ _ f. f ≡ OutOfMemory };
+
+    fn from(_error: AllocFailed<T>) -> WordFault {
         WordFault::OutOfMemory
     }
 }

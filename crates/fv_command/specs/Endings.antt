@@ -5,10 +5,11 @@ use Rattle.fv_base.specs.Words.{fault_number}
 use Rattle.fv_base.specs.declared.fault.Fault.{Fault}
 use Rattle.fv_compare.specs.declared.side.Side.TheVariants as sides
 use Rattle.fv_command.specs.declared.ending.Refusal.{Refusal}
-use Rattle.fv_command.specs.declared.ending.Refusal.TheVariants.{Input, OneOfTwo, Hobs}
+use Rattle.fv_command.specs.declared.ending.Refusal.TheVariants.{Input, OneOfTwo, Hobs, Section}
 use Rattle.fv_command.specs.declared.status.Status.{Status}
 use Rattle.fv_command.specs.declared.status.Status.TheVariants as statuses
 use Rattle.fv_hob.specs.Words.{hob_fault_number}
+use Rattle.fv_open.specs.Words.{open_fault_number}
 use Rattle.fv_text.specs.Words.{line_feed, Change, StopsIn, Writes}
 
 -- the exit status for each status of a run: 0 Done, 1 Different, 2 Faulty and Refused, 3 WrongArguments
@@ -35,10 +36,12 @@ numbered_line number at = codes "fault " ++ (decimal number ++ (codes " at " ++ 
 abbrev pub fault_line : Fault → List ℕ
 fault_line f = numbered_line (fault_number f.kind) f.place.offset
 
--- the line of a refusal: it begins with `hob` for a hand-off list, and with `first` or `second` for one of two inputs
+-- the line of a refusal: it begins with `hob` for a hand-off list, with `section` for a packed section, and with `first`
+-- or `second` for one of two inputs
 abbrev pub refusal_line : Refusal → List ℕ
 refusal_line (Input f) = fault_line f
 refusal_line (OneOfTwo sides.First f) = codes "first " ++ fault_line f
 refusal_line (OneOfTwo sides.Second f) = codes "second " ++ fault_line f
 refusal_line (OneOfTwo sides.Output f) = fault_line f
 refusal_line (Hobs f) = codes "hob " ++ numbered_line (hob_fault_number f.kind) f.offset
+refusal_line (Section f) = codes "section " ++ numbered_line (open_fault_number f.kind) f.offset

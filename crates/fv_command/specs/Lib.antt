@@ -3,6 +3,8 @@ pub mod Extractions
 pub mod Endings
 pub mod RunInputs
 pub mod PairRuns
+pub mod PackedSections
+pub mod OpenRuns
 pub mod ImageChecks
 pub mod Tasks
 pub mod PlanRuns

@@ -6,7 +6,7 @@ use Rattle.fv_hob.specs.Words.{BeginsTable, IsFirstHobFault, hob_out_of_memory, 
 use Rattle.fv_lines.specs.Words.{HobsText}
 use Rattle.fv_command.specs.RunInputs.{Gives, GivingStops, GivesAt, InputStops}
 use Rattle.fv_command.specs.declared.ending.Refusal.{Refusal}
-use Rattle.fv_command.specs.declared.ending.Refusal.TheVariants.{Input, OneOfTwo, Hobs}
+use Rattle.fv_command.specs.declared.ending.Refusal.TheVariants.{Input, OneOfTwo, Hobs, Section}
 use Rattle.fv_text.specs.Words.{Change}
 use Rattle.fv_command.specs.declared.status.Status.{Status}
 use Rattle.fv_command.specs.declared.status.Status.TheVariants.{Done, Different}
@@ -45,6 +45,7 @@ StopsHobs base hex first second (Hobs fault) =
     (list : List ℕ) × (image : List ℕ) × Gives hex first.old first.new list × GivesImage hex base second image
     × (((fault ≡ hob_out_of_memory) × BeginsTable list) ⊎ IsFirstHobFault list fault)
 StopsHobs base hex first second (OneOfTwo side fault) = ⊥
+StopsHobs base hex first second (Section fault) = ⊥
 
 -- an input was read to its end, and the bytes taken from it (`GivesAt`) are a volume with this meaning
 abbrev pub GivesVolume : Bool → Option ℕ → Change → Meaning → Type 0

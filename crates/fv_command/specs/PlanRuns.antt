@@ -5,6 +5,7 @@ use Rattle.std.specs.String.{string_bytes}
 use Rattle.fv_command.specs.declared.source.Source.{Source}
 use Rattle.fv_command.specs.declared.source.Source.TheVariants.{Standard, File, Missing, NoInput}
 use Rattle.fv_command.specs.Endings.{Ends, refusal_line}
+use Rattle.fv_command.specs.OpenRuns.{OpenText, OpenStops}
 use Rattle.fv_command.specs.PairRuns.{ListsHobs, StopsHobs, ComparisonRunText, SideStops}
 use Rattle.fv_plan.specs.Words.{first_file, second_file}
 use Rattle.fv_plan.specs.declared.plan.Command.{Command}
@@ -12,7 +13,7 @@ use Rattle.fv_plan.specs.declared.plan.Plan.{Plan}
 use Rattle.fv_text.specs.Words.{Change, PortView, port_view}
 use Rattle.fv_command.specs.RunInputs.{GivesAt, InputStops}
 use Rattle.fv_command.specs.Tasks.{TaskText, TaskRefusal}
-use Rattle.fv_plan.specs.declared.plan.Command.TheVariants.{Single, Hobs, Compare}
+use Rattle.fv_plan.specs.declared.plan.Command.TheVariants.{Single, Hobs, Open, Compare}
 use Rattle.fv_command.specs.declared.ending.Ending.{Ending}
 use Rattle.fv_command.specs.declared.ending.Refusal.{Refusal}
 use Rattle.fv_command.specs.declared.ending.Refusal.TheVariants.{Input, OneOfTwo}
@@ -45,24 +46,28 @@ IsSecondSource opens None source = source ≡ NoInput
 IsSecondSource opens (Some path) source = IsOpened opens (string_bytes path) source
 
 -- the text and the status of a command that is not refused, for these reads of its inputs. A task has its text for the
--- bytes that are taken from its input (`TaskText`), and reads nothing of the second input. A hand-off list has the
--- status Done
+-- bytes that are taken from its input (`TaskText`). A task and `open` read nothing of the second input. A hand-off list
+-- has the status Done
 abbrev pub CommandRunText : Command → Bool → (first second : Change) → Status → List ℕ → Type 0
 CommandRunText (Single task at file) hex first second status text =
     (second.new ≡ second.old)
     × ((bytes : List ℕ) × GivesAt hex at first.old first.new bytes × TaskText task hex bytes status text)
 CommandRunText (Hobs file image) hex first second status text =
     (status ≡ Done) × ListsHobs hex (option_map (λ i. i.base) image) first second text
+CommandRunText (Open path at file) hex first second status text =
+    (second.new ≡ second.old) × OpenText path hex at first status text
 CommandRunText (Compare a b) hex first second status text = ComparisonRunText hex a.at b.at first second status text
 
--- why a command is refused, for these reads of its inputs: a fault of an input, of one of two volumes with its side, or
--- of a hand-off list. A task reads nothing of the second input
+-- why a command is refused, for these reads of its inputs: a fault of an input, of one of two volumes with its side, of
+-- a hand-off list, or of a packed section. A task and `open` read nothing of the second input
 abbrev pub StopsCommand : Command → Bool → (first second : Change) → Refusal → Type 0
 StopsCommand (Single task at file) hex first second (Input fault) =
     (second.new ≡ second.old) × InputStops (TaskRefusal task) hex at first fault
 StopsCommand (Single task at file) hex first second refusal = ⊥
 StopsCommand (Hobs file image) hex first second refusal =
     StopsHobs (option_map (λ i. i.base) image) hex first second refusal
+StopsCommand (Open path at file) hex first second refusal =
+    (second.new ≡ second.old) × OpenStops path hex at first refusal
 StopsCommand (Compare a b) hex first second (OneOfTwo side fault) = SideStops side hex a.at b.at first second fault
 StopsCommand (Compare a b) hex first second refusal = ⊥
 

@@ -5,6 +5,9 @@ pub use Rattle.fv_command.specs.Endings.{exit_code, Ends, numbered_line, fault_l
 pub use Rattle.fv_command.specs.RunInputs.{Gives, TakenAt, GivesAt, GivingStops, InputStops, BeginsWith, BeginsNone}
 pub use Rattle.fv_command.specs.PairRuns.{GivesImage, ListsHobs, StopsHobs, GivesVolume, SideStops}
 pub use Rattle.fv_command.specs.PairRuns.{ComparisonRunText}
+pub use Rattle.fv_command.specs.PackedSections.{numbered_in_body, numbered_parts, part_at, is_packed, packed_frame, FindsPacked}
+pub use Rattle.fv_command.specs.OpenRuns.{from_byte, ShowsContents, OpeningStops, PackedText, PackedStops, OpenText, NoVolume}
+pub use Rattle.fv_command.specs.OpenRuns.{OpenStops}
 pub use Rattle.fv_command.specs.ImageChecks.{outcome_line, checked_line, is_rejected, is_not_canonical, checks_status}
 pub use Rattle.fv_command.specs.Tasks.{AreCells, CheckText, PartText, TaskText}
 pub use Rattle.fv_command.specs.Tasks.{MemoryRanOutInImage, MemoryRanOutForCopy, TaskRefusal}

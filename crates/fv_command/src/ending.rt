@@ -4,6 +4,7 @@ use crate::status::Status;
 use fv_base::Fault;
 use fv_compare::Side;
 use fv_hob::HobFault;
+use fv_open::OpenFault;
 use std::fmt;
 
 /// Why a run was refused. `Display` writes the meaning of the fault, as a sentence.
@@ -15,6 +16,8 @@ pub enum Refusal {
     OneOfTwo(Side, Fault),
     /// A hand-off list was rejected, or memory ran out while its blocks were read.
     Hobs(HobFault),
+    /// A packed section was not opened, or memory ran out while it was opened.
+    Section(OpenFault),
 }
 
 impl fmt::Display for Refusal {
@@ -23,6 +26,7 @@ impl fmt::Display for Refusal {
             Refusal::Input(fault) => write!(f, "{}", fault.kind),
             Refusal::OneOfTwo(_, fault) => write!(f, "{}", fault.kind),
             Refusal::Hobs(fault) => write!(f, "{}", fault.kind),
+            Refusal::Section(fault) => write!(f, "{}", fault.kind),
         }
     }
 }

@@ -39,8 +39,8 @@ fn put_side_fault<S: Sink>(out: &mut S, side: Side, fault: Fault)
 }
 
 /// Puts the line of a refusal: `fault N at M`, with the number of the fault and its offset in
-/// bytes. The line begins with `hob` for the fault of a hand-off list, and with `first` or `second`
-/// for the fault of one of two inputs.
+/// bytes. The line begins with `hob` for the fault of a hand-off list, with `section` for the fault
+/// of a packed section, and with `first` or `second` for the fault of one of two inputs.
 pub fn put_refusal<S: Sink>(out: &mut S, refusal: Refusal)
     ensures { S.takes out.old (refusal_line refusal) out.new }
 {
@@ -48,6 +48,7 @@ pub fn put_refusal<S: Sink>(out: &mut S, refusal: Refusal)
         Refusal::Input(fault) => put_fault(out, b"", fault.kind.number(), fault.place.offset),
         Refusal::OneOfTwo(side, fault) => put_side_fault(out, side, fault),
         Refusal::Hobs(fault) => put_fault(out, b"hob ", fault.number(), fault.offset),
+        Refusal::Section(fault) => put_fault(out, b"section ", fault.number(), fault.offset),
     }
 }
 

@@ -10,6 +10,7 @@ use crate::comparison_run::put_compared;
 use crate::ending::{Ending, Refusal};
 use crate::fault_text::put_refusal;
 use crate::hob_run::put_hob_list;
+use crate::open_run::{put_first_section, put_section_at};
 use crate::run_end::{finish, wrote_all};
 use crate::status::Status;
 use crate::task_run::put_task;
@@ -48,6 +49,14 @@ fn put_command<First: Read, Second: Read, S: Sink>(
         },
         Command::Hobs { image, .. } => {
             put_hob_list(alloc, plan.hex, base_of(image), first, second, out)
+        }
+        Command::Open {
+            path: Some(path),
+            at,
+            ..
+        } => put_section_at(alloc, plan.hex, path, *at, first, out),
+        Command::Open { path: None, at, .. } => {
+            put_first_section(alloc, plan.hex, *at, first, out)
         }
         Command::Compare {
             first: volume,

@@ -24,9 +24,9 @@ use fv_tree::{VolumeView, read_volume};
 use std::alloc::Global;
 use std::io::Read;
 
-// Reads the volume at the start of the input. Memory runs out only if the input begins with a volume
-// header.
-fn volume_at_start(alloc: Global, input: &[u8]) -> Result<VolumeView<'_>, Fault>
+/// Reads the volume at the start of the input. Memory runs out only if the input begins with a volume
+/// header.
+pub(crate) fn volume_at_start(alloc: Global, input: &[u8]) -> Result<VolumeView<'_>, Fault>
     ensures ok { IfOk result (λ view. BeginsWith input.now view) }
     ensures err { IfErr result (λ f. MemoryRanOut input.now f ⊎ BeginsNone input.now f) }
 {

@@ -4,6 +4,7 @@ pub mod Ways
 pub mod SectionStreams
 pub mod Headers
 pub mod Contents
+pub mod OpenedFrames
 pub mod WorkedInputs
 pub mod Words
 pub mod inner

@@ -7,5 +7,6 @@ pub use Rattle.fv_open.specs.Headers.{lzma_promised, tiano_promised, promised, b
 pub use Rattle.fv_open.specs.Headers.{data_from, has_data_offset, fields_len, guided_head, head_in, way_of}
 pub use Rattle.fv_open.specs.Contents.{fault_of, moved, by_way, first_value, customized, lzma_x86, standard_of, standard}
 pub use Rattle.fv_open.specs.Contents.{decoded, as_stored, stored_sum, with_sum, contents_by, contents, opened, opened_form}
+pub use Rattle.fv_open.specs.OpenedFrames.{opened_frame}
 pub use Rattle.fv_open.specs.WorkedInputs.{short_section, compression_section, guided_section, other_guid, three_bytes}
 pub use Rattle.fv_open.specs.WorkedInputs.{lzma_a, empty_section, packed_4, packed_5, gives, rejects}

@@ -4,6 +4,7 @@
 
 mod encapsulation;
 mod fault;
+mod frames;
 pub mod further_laws;
 mod offsets;
 mod opened;
@@ -15,6 +16,7 @@ pub mod worked_sections;
 
 pub use encapsulation::{Encapsulation, way_of};
 pub use fault::{OpenFault, OpenFaultKind};
+pub use frames::open_frame;
 pub use opened::Opened;
 pub use opening::open;
 pub use way::Way;

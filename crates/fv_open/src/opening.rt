@@ -119,8 +119,8 @@ fn standard_contents<'a>(
     }
 }
 
-// Returns the contents of a section with this header.
-fn contents<'a>(
+/// Returns the contents of a section with this header.
+pub(crate) fn contents<'a>(
     alloc: Global,
     section: &Frame<'a>,
     head: Encapsulation,

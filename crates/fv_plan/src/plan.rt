@@ -34,6 +34,17 @@ pub enum Command {
         /// The image in which the list's volumes are looked up, if one is given.
         image: Option<ImageFile>,
     },
+    /// Write the contents of a packed section: a compression section or a GUID-defined section.
+    Open {
+        /// The numbers that lead to the section in the volume with which the input begins, or None if
+        /// the section itself begins the input.
+        path: Option<Vec<u64>>,
+        /// The byte of the input at which the volume or the section begins, or None if `--at` is not
+        /// given. If the input is hexadecimal text, this counts decoded bytes.
+        at: Option<u64>,
+        /// The input's file, or None for standard input.
+        file: Option<String>,
+    },
     /// Report whether two volumes have the same meaning.
     Compare {
         /// The first volume.
@@ -105,7 +116,9 @@ impl Plan {
         ensures { option_copied result ≡ first_file self.now.command }
     {
         match &self.command {
-            Command::Single { file, .. } | Command::Hobs { file, .. } => file.as_ref(),
+            Command::Single { file, .. }
+            | Command::Hobs { file, .. }
+            | Command::Open { file, .. } => file.as_ref(),
             Command::Compare { first, .. } => Some(&first.path),
         }
     }
@@ -115,7 +128,7 @@ impl Plan {
         ensures { option_copied result ≡ second_file self.now.command }
     {
         match &self.command {
-            Command::Single { .. } => None,
+            Command::Single { .. } | Command::Open { .. } => None,
             Command::Hobs { image, .. } => image.as_ref().map(|image| &image.path),
             Command::Compare { second, .. } => Some(&second.path),
         }

@@ -74,6 +74,12 @@ fn plans() -> &'static str {
     fv unfix: Plan { hex: false, command: Single { task: Unfix, at: None, file: None } }\n\
     fv unfix --at 64 --hex a.txt: Plan { hex: true, command: Single { task: Unfix, at: Some(64), file: \
         Some(\"a.txt\") } }\n\
+    fv open: Plan { hex: false, command: Open { path: None, at: None, file: None } }\n\
+    fv open --at 0x40 --hex a.txt: Plan { hex: true, command: Open { path: None, at: Some(64), file: \
+        Some(\"a.txt\") } }\n\
+    fv open --section 0: Plan { hex: false, command: Open { path: Some([0]), at: None, file: None } }\n\
+    fv open --section 2.00.18446744073709551615 --at 8 a.fd: Plan { hex: false, command: Open { path: Some([2, 0, \
+        18446744073709551615]), at: Some(8), file: Some(\"a.fd\") } }\n\
     fv scan a.bin: Plan { hex: false, command: Single { task: Scan, at: None, file: Some(\"a.bin\") } }\n\
     fv scan --hex: Plan { hex: true, command: Single { task: Scan, at: None, file: None } }\n\
     fv compare a.fv b.fv: Plan { hex: false, command: Compare { first: VolumeFile { path: \"a.fv\", at: None }, \

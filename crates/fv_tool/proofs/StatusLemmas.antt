@@ -1,17 +1,19 @@
 -- The run of a plan does not end with the status of wrong arguments (`never_wrong`).
-use Rattle.std.proofs.Common.{◌≡◌, ℕ, ◌∙◌, List, Bool, true, false, cond, inl, inr, subst, sym, Option, None, Some}
+use Rattle.std.proofs.Common.{◌≡◌, ℕ, ◌∙◌, List, Bool, true, false, cond, inl, inr, subst, sym, Option, None, Some, Vec, Global}
 use Rattle.fv_text.specs.Words.{Change}
-use Rattle.fv_command.specs.Words.{HasText, Runs, RunsOver, CommandRunText, PartText, TaskText}
+use Rattle.fv_command.specs.Words.{HasText, Runs, RunsOver, CommandRunText, OpenText, PackedText, PartText, TaskText}
 use Rattle.fv_command.specs.declared.ending.Ending.{Ending}
 use Rattle.fv_command.specs.declared.ending.Refusal.{Refusal}
 use Rattle.fv_command.specs.declared.extracting.Extraction.{Extraction}
+use Rattle.fv_command.specs.declared.packed.Packed.{Packed}
+use Rattle.fv_command.specs.declared.packed.Packed.TheVariants as packed
 use Rattle.fv_command.specs.declared.status.Status.{Status}
 use Rattle.fv_command.specs.declared.extracting.Extraction.TheVariants.{Made, Stored, NotFound, NotSectioned}
 use Rattle.fv_command.specs.declared.status.Status.TheVariants.{Done, Different, Faulty, Refused, WrongArguments}
 use Rattle.fv_plan.specs.declared.plan.Command.{Command}
 use Rattle.fv_plan.specs.declared.plan.Plan.{Plan}
 use Rattle.fv_plan.specs.declared.plan.Task.{Task}
-use Rattle.fv_plan.specs.declared.plan.Command.TheVariants.{Single, Hobs, Compare}
+use Rattle.fv_plan.specs.declared.plan.Command.TheVariants.{Single, Hobs, Open, Compare}
 use Rattle.fv_plan.specs.declared.plan.Task.TheVariants.{Normalise, NormaliseAll, List as Listing, ListSums, Extract, Check, CheckAll, Cells, Unfix}
 use Rattle.fv_plan.specs.declared.plan.Task.TheVariants.{Scan}
 
@@ -38,10 +40,21 @@ says_not_wrong Cells hex input text said = said
 says_not_wrong Unfix hex input text said = said
 says_not_wrong Scan hex input text said = said
 
+packed_not_wrong : (hex : Bool) (p : Packed) (text : List ℕ) → PackedText hex p WrongArguments text → ⊥
+packed_not_wrong hex (packed.Section frame) text said = said
+packed_not_wrong hex packed.NotFound text said = said
+packed_not_wrong hex packed.NotPacked text said = said
+
+opens_not_wrong : (path : Option (Vec ℕ Global)) (hex : Bool) (at : Option ℕ) (input : Change) (text : List ℕ)
+    → OpenText path hex at input WrongArguments text → ⊥
+opens_not_wrong None hex at input text (is, shows) = let bad : WrongArguments ≡ Done = is in cc
+opens_not_wrong (Some path) hex at input text (bytes, m, p, gives, begins, finds, said) = packed_not_wrong hex p text said
+
 command_not_wrong : (c : Command) (hex : Bool) (first second : Change) (text : List ℕ) → CommandRunText c hex first second WrongArguments text
     → ⊥
 command_not_wrong (Single task at file) hex first second text (same, (bytes, gives, said)) = says_not_wrong task hex bytes text said
 command_not_wrong (Hobs file image) hex first second text (is, lists) = let bad : WrongArguments ≡ Done = is in cc
+command_not_wrong (Open path at file) hex first second text (same, said) = opens_not_wrong path hex at first text said
 command_not_wrong (Compare a b) hex first second text (m, k, gives, also, inl (is, same), line) = let bad : WrongArguments ≡ Done = is in cc
 command_not_wrong (Compare a b) hex first second text (m, k, gives, also, inr (is, differ), line) = let bad : WrongArguments ≡ Different = is in cc
 

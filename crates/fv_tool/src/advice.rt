@@ -16,6 +16,7 @@ pub const SYNOPSIS: &str = "\
     fvtool cells [--at N] [--hex] [FILE]\n\
     fvtool unfix [--at N] [--hex] [FILE]\n\
     fvtool extract --name GUID [--section HH] [--instance N] [--at N] [--hex] [FILE]\n\
+    fvtool open [--section PATH] [--at N] [--hex] [FILE]\n\
     fvtool check [--at N | --all] [--hex] [FILE]\n\
     fvtool scan [--hex] [FILE]\n\
     fvtool compare [--at N] [--other-at N] [--hex] A B\n\
@@ -28,6 +29,7 @@ pub const COMMANDS: &str = "\
     cells      lists where each part of a volume lies\n\
     unfix      writes a copy of a volume in which no file is marked fixed\n\
     extract    writes a file of a volume, or a section of the file\n\
+    open       writes the contents of a compressed or GUID-defined section\n\
     check      reports whether a volume is its own canonical image; with --all each volume\n\
     scan       finds the volumes in an image\n\
     compare    reports whether two volumes mean the same, or where they first differ\n\

@@ -66,7 +66,7 @@ fn is_named<P: Process>(process: &P, refusal: Refusal) -> bool {
         Refusal::OneOfTwo(_, fault) | Refusal::Input(fault) => {
             fault == unread && process.has_named_file()
         }
-        Refusal::Hobs(_) => false,
+        Refusal::Hobs(_) | Refusal::Section(_) => false,
     }
 }
 

@@ -5,6 +5,7 @@ use fv_base::limits::VOLUME_LIMIT;
 use fv_base::{Fault, FaultKind};
 use fv_command::Refusal;
 use fv_compare::Side;
+use fv_open::OpenFaultKind;
 use fv_plan::{Command, Plan, Task};
 use std::fmt;
 
@@ -40,12 +41,12 @@ impl fmt::Display for Cause<'_> {
     }
 }
 
-// Returns the fault of a volume or of a read that a refusal has. A hand-off list has faults of
-// another type.
+// Returns the fault of a volume or of a read that a refusal has. A hand-off list and a packed section
+// have faults of other types.
 fn fault_of(refusal: Refusal) -> Option<Fault> {
     match refusal {
         Refusal::Input(fault) | Refusal::OneOfTwo(_, fault) => Some(fault),
-        Refusal::Hobs(_) => None,
+        Refusal::Hobs(_) | Refusal::Section(_) => None,
     }
 }
 
@@ -142,6 +143,19 @@ fn step_of(fault: Fault, refusal: Refusal, task: Option<Task>) -> &'static str {
     }
 }
 
+// Returns what to do about a fault of another type.
+fn other_step(refusal: Refusal) -> &'static str {
+    match refusal {
+        Refusal::Section(fault) => match fault.kind {
+            OpenFaultKind::UnknownWay => "man fvtool lists the ways; fv-unpack knows others",
+            OpenFaultKind::TooLong => "treat the input as hostile",
+            OpenFaultKind::OutOfMemory => "try again with more memory",
+            _ => SOURCE,
+        },
+        _ => "man fvtool",
+    }
+}
+
 impl<'a> Cause<'a> {
     /// Returns the cause of a refusal, as far as it is known which plan was run.
     pub fn new(refusal: Refusal, plan: Option<&'a Plan>) -> Cause<'a> {
@@ -154,7 +168,7 @@ impl<'a> Cause<'a> {
                 length_step(fault, refusal, task_of(plan)),
             ),
             Some(fault) => (None, step_of(fault, refusal, task_of(plan))),
-            None => (None, "man fvtool"),
+            None => (None, other_step(refusal)),
         };
         Cause {
             file,

@@ -4,7 +4,7 @@ use Rattle.std.specs.Str.{bytes_eq}
 use Rattle.clap.specs.Words.{App, found_of, rows_of}
 use Rattle.clap.specs.declared.parser.matches.ArgMatches.{ArgMatches}
 use Rattle.fv_arguments.specs.Options.{compare_app, extract_app, faults_in, hobs_app, list_app, image_app, one_input_app, rows_in}
-use Rattle.fv_arguments.specs.Options.{volume_app}
+use Rattle.fv_arguments.specs.Options.{open_app, volume_app}
 use Rattle.fv_arguments.specs.CommandLines.{AsksBy, HasTexts, command_name}
 use Rattle.fv_plan.specs.declared.plan.Command.{Command}
 use Rattle.fv_plan.specs.declared.plan.Plan.{Plan}
@@ -24,7 +24,8 @@ app_named name =
     else (if bytes_eq name (codes "extract") then extract_app
     else (if bytes_eq name (codes "compare") then compare_app
     else (if bytes_eq name (codes "list") then list_app
-    else (if bytes_eq name (codes "scan") then one_input_app else volume_app))))))
+    else (if bytes_eq name (codes "open") then open_app
+    else (if bytes_eq name (codes "scan") then one_input_app else volume_app)))))))
 
 -- the parser accepted the arguments of a command, and m holds the values that it found in them
 pub record IsParsed (app : App) (rest : List (List ℕ)) (m : ArgMatches) : Type 0 where

@@ -37,6 +37,10 @@ pub(crate) fn small_runs() -> &'static str {
         deleted 32 filler 0 free 24|\n\
     unfix: H128 0a*16 43aa0104180000f8 ff*32 -> 0 =H128 0a*16 47aa0100180000f8 ff*32\n\
     unfix: H128 0a*16 43ab0104180000f8 ff*32 -> 2 fault 14 at 89|\n\
+    open: 0b00000102000000000102 ff -> 0 =0102\n\
+    open: 050000195a -> 2 section fault 2 at 3|\n\
+    open 0.1: H128 0a*16 33aa02002b0000f8050000195a0000000b00000102000000000102 ff*13 -> 0 =0102\n\
+    open 0.0: H128 0a*16 33aa02002b0000f8050000195a0000000b00000102000000000102 ff*13 -> 1 not packed|\n\
     check: empty -> 0 canonical|\n\
     check: H160 0a*16 3baa07001e0000f8060000130308 ff*18 00aaf000200000f801 ff*31 -> 1 note pad at 104 holds 1 \
         bytes|note depex in 0a0a0a0a-0a0a-0a0a-0a0a-0a0a0a0a0a0a fault 3 at 0|not canonical|\n\

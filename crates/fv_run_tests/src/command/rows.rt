@@ -43,6 +43,9 @@ fn commands() -> &'static str {
     scan: fv scan\n\
     cells: fv cells\n\
     unfix: fv unfix\n\
+    open: fv open\n\
+    open 0.1: fv open --section 0.1\n\
+    open 0.0: fv open --section 0.0\n\
     check: fv check\n\
     check-all: fv check --all\n\
     compare: fv compare first second\n\

@@ -8,5 +8,5 @@ returns-in-scan c =
 pub returns-in_default : goal.returns-in_default
 returns-in_default c =
     let not = c.in_default in
-    let plain = no_other _ not.not-normalise not.not-check not.not-hobs not.not-extract not.not-compare not.not-list not.not-scan in
+    let plain = no_other _ not.not-normalise not.not-check not.not-hobs not.not-extract not.not-compare not.not-list not.not-open not.not-scan in
     rw plain (c.add_volume.ensures _ c.text_rules-in_default.ensures)
