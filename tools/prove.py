@@ -49,8 +49,6 @@ SECONDS = {
     "fv_placement": 35, "fv_sinks": 20, "fv_flash": 15, "fv_packed": 30, "fv_huffman": 35, "fv_lzma": 190, "fv_tiano": 110,
     "fv_x86": 20, "fv_crc32": 10, "fv_open": 110, "fv_tree": 215, "fv_rows": 35, "fv_compare": 45, "fv_lines": 95,
     "fv_canon": 190, "fv_plan": 20, "fv_arguments": 100, "fv_command": 190, "fv_tool": 110, "fv_c": 150,
-    "fv_tree": 215, "fv_rows": 35, "fv_compare": 45, "fv_lines": 95, "fv_canon": 190, "fv_plan": 20, "fv_arguments": 100,
-    "fv_command": 190, "fv_tool": 110, "fv_c": 150,
 }  # fmt: skip
 USUAL = 60
 # The crates that other crates wait for, and the largest number of processes that build each of them, if there is room.
