@@ -37,8 +37,8 @@
  * Any bytes may be passed to any call: bytes that are not an input of the right kind are rejected with a fault.
  * Memory: in addition to its arguments, a call takes up to this many times the size of the input. This was measured
  * for inputs that consist of tiny parts only, which cost most. fv_section_open takes as many bytes as its contents have
- * if it has to decode them, and otherwise none. For LZMA it takes up to 6.1 MiB more, and up to twice the contents if
- * the stream does not say how long they are.
+ * if it has to decode them, and otherwise none. For LZMA it takes up to 6.1 MiB more, and if the stream does not say how
+ * long the contents are, three times their bytes.
  * Stack: at most 20.5 KiB, as measured.
  *
  * Rules for the caller
