@@ -185,14 +185,17 @@ COMMANDS: dict[str, Callable[[bytes], Said]] = {
     "hobs": hobs,
     "list": listed,
     "list --sums": lambda data: listed(data, True),
+    "open": lambda data: (0, fv.section_open(data).contents),
 }
+# What comes before the words of a fault, for commands whose faults are not those of a volume.
+FAULT_NAMES = {"hobs": "hob ", "open": "section "}
 # The commands that write bytes, or digits if they have the option --hex.
-OF_BYTES = ("normalise", "unfix", "extract")
+OF_BYTES = ("normalise", "unfix", "extract", "open")
 
 
 def made_by(command: str, data: bytes) -> Said:
     """Returns what a command of COMMANDS writes about some data."""
-    return caught(COMMANDS[command], data, "hob " if command == "hobs" else "")
+    return caught(COMMANDS[command], data, FAULT_NAMES.get(command, ""))
 
 
 def extract(data: bytes, words: list[str]) -> Said:

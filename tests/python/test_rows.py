@@ -36,11 +36,11 @@ MADE = 300
 
 
 def made_by_calls(run: Run) -> said.Said | None:
-    """Returns what a run writes, or None if the program has a part in it that no call has: an option, or the sections
-    of a security core."""
+    """Returns what a run writes, or None if the program has a part in it that no call has: an option, the path of a
+    packed section, or the sections of a security core."""
     command, *words = (it for it in run.arguments if it not in run.files)
     inputs = [run.files[it] for it in run.arguments if it in run.files] or [run.standard]
-    if OWN_OPTIONS & {*words}:
+    if OWN_OPTIONS & {*words} or command == "open" and words:
         return None
     if command == "compare":
         return said.compare(*inputs)
