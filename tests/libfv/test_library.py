@@ -166,12 +166,13 @@ class Examples(Compiled):
         """The examples list the same files, also those in compressed sections and in sections inside these."""
         environment = {"LIBFV": str(LIBRARY), "LD_LIBRARY_PATH": str(LIBRARY.parent)}
         examples = self.examples("drivers")
-        for name, data, some in (
+        images: list[tuple[str, bytes, list[str]]] = [
             ("firmware", making.firmware(), ["06 Pei0", "07 Dxe4", "07 Own", f"0b {making.guid(7)}"]),
             ("deep", making.deep(), ["07 Core"]),
             ("damaged", making.damaged(), []),
             ("nothing", b"", []),
-        ):
+        ]
+        for name, data, some in images:
             (self.room / name).write_bytes(data)
             found = set()
             for language, words in examples.items():
