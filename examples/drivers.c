@@ -49,16 +49,16 @@ static void print_name(const uint8_t *text, size_t size)
 
 static void list_packed(const uint8_t *section, size_t size, int most_open);
 
-/* Lists the files among the rows of a volume, or of a stream of sections: `tree` is fv_volume_tree or
- * fv_sections_tree. */
-static void list(__typeof__(fv_volume_tree) *tree, const uint8_t *bytes, size_t size, int most_open)
+/* Lists the files among the rows of a volume, or of a stream of sections: `tree` is fv_volume_tree_with or
+ * fv_sections_tree. Files that are marked as fixed, as in images for ARM, are read without their marks. */
+static void list(__typeof__(fv_sections_tree) *tree, const uint8_t *bytes, size_t size, int most_open)
 {
     size_t count = 0;
     fv_node *rows = NULL;
-    fv_result result = tree(bytes, size, NULL, 0, &count, NULL);
+    fv_result result = tree(bytes, size, FV_WITHOUT_MARKS, NULL, 0, &count, NULL);
     if (result == FV_BUFFER_TOO_SMALL) {
         rows = allocate(count, sizeof *rows);
-        result = tree(bytes, size, rows, count, &count, NULL);
+        result = tree(bytes, size, FV_WITHOUT_MARKS, rows, count, &count, NULL);
     }
     for (size_t i = 0; result == FV_OK && i < count; i++) {
         const uint8_t *body = bytes + rows[i].offset;
@@ -103,7 +103,7 @@ int main(int argc, char **argv)
     fv_header *headers = allocate(count, sizeof *headers);
     if (fv_image_scan(image, size, headers, count, &count, NULL) != FV_OK) return 2;
     for (size_t i = 0; i < count; i++)
-        list(fv_volume_tree, image + headers[i].offset, headers[i].length, MOST_OPEN);
+        list(fv_volume_tree_with, image + headers[i].offset, headers[i].length, MOST_OPEN);
     begin_file(NULL);
     free(headers);
     free(image);

@@ -1,7 +1,8 @@
 #!/usr/bin/env python3
 # SPDX-License-Identifier: BSD-2-Clause-Patent
 """An example for Python programs: lists the drivers and other files of a flash image, also those in compressed sections.
-Each line has the type of a file (07 is a driver, 06 a PEIM) and its name, or its GUID if it has no name.
+Each line has the type of a file (07 is a driver, 06 a PEIM) and its name, or its GUID if it has no name. Files that are
+marked as fixed, as in images for ARM, are read without their marks.
     python3 drivers.py IMAGE"""
 
 import sys
@@ -22,7 +23,7 @@ def parts(rows: Iterable[fv.Node], data: bytes, most_open: int) -> Iterator[tupl
             section = data[row.offset - row.header_length : row.offset + row.length]
             try:
                 contents = fv.section_open(section, MOST_CONTENTS).contents
-                inside = fv.sections_tree(contents)
+                inside = fv.sections_tree(contents, without_marks=True)
             except fv.FaultError:
                 continue
             yield from parts(inside, contents, most_open - 1)
@@ -40,7 +41,7 @@ def files(image: bytes) -> Iterator[str]:
     for header in fv.image_scan(image):
         volume = image[header.offset : header.offset + header.length]
         try:
-            rows = fv.volume_tree(volume)
+            rows = fv.volume_tree(volume, without_marks=True)
         except fv.FaultError:
             continue
         for row, data in parts(rows, volume, MOST_OPEN):

@@ -31,8 +31,8 @@ ENDING = """## Environment
 
 ## Caveats
 
-The command is not proved. The library, which reads volumes, is proved. Opened sections are read by the command itself,
-by Python's `lzma` and, if it is installed, `brotli`.
+The command is not proved. The library, which reads volumes and opens sections, is proved. The sections in opened
+contents are read by the command itself, and Brotli is opened by Python's `brotli`, if it is installed.
 
 ## See also
 

@@ -107,6 +107,9 @@ CHECKS = (
     Check("second", "python3 -m tests.fuzz.second --count 300 --seed 1 --jobs 2 --plants", QUICK,
           "a second reader agrees with the program and the library over 2500 inputs, and planted misreadings are found",
           after=("program", "library")),
+    Check("packed", "python3 -m tests.fuzz.packed --count 300 --seed 1 --jobs 2 --plants", QUICK,
+          "a second reader and liblzma agree with the library and the program over 15,000 packed sections, and planted "
+          "misreadings are found", after=("program", "library")),
     Check("memory", "tests.program.test_memory", 0,
           "the program and some tests with each allocation refused in turn, and the memory that a small file takes",
           after=("prove",), needs=("program",)),

@@ -48,15 +48,16 @@ _fvtool() {
     typeset -A opt_args
     local hex='--hex[each input is hexadecimal text]'
     local at='--at[the volume that begins at this byte]:offset: _fvtool_offsets 1'
+    local through='--open[through compressed and GUID-defined sections]'
     local sections='(01 02 03 10 11 12 13 14 15 16 17 18 19 1b 1c)'
     _arguments -C '1:command:_fvtool_commands' '*::argument:->rest'
     if [[ $state != rest ]]; then return; fi
     case $words[1] in
         normalise|check) _arguments "(--all)$at" '(--at)--all[each volume of a flash image]' $hex '1:file:_files' ;;
-        list) _arguments '--sums[with digests]' $at $hex '1:file:_files' ;;
+        list) _arguments '(--open)--sums[with digests]' "(--sums)$through" $at $hex '1:file:_files' ;;
         cells|unfix) _arguments $at $hex '1:file:_files' ;;
         extract)
-            _arguments '--name[the name of the file]:name:_fvtool_names' $at $hex '1:file:_files' \
+            _arguments '--name[the name of the file]:name:_fvtool_names' $through $at $hex '1:file:_files' \
                 "--section[the type of the section]:type:$sections" '--instance[which of these sections]:number:'
             ;;
         open) _arguments $at $hex '1:file:_files' '--section[the numbers of the section in list]:path:' ;;

@@ -19,6 +19,7 @@
  *   What is in a volume, at every level?                  fv_volume_tree            a volume                22
  *   Which digest does each of these parts have?           fv_volume_tree_digests    a volume                9
  *   What are the bytes of one of these parts?             fv_volume_extract         a volume                5
+ *   The same three, without the marks of fixed files?     fv_volume_.._with         a volume                1 more
  *   How is a packed section opened? How long is it then?  fv_section_way            a section, then more    none
  *   What are the contents of a packed section?            fv_section_open           a section, then more    see below
  *   What is in a stream of sections, at every level?      fv_sections_tree          a stream                22
@@ -38,8 +39,9 @@
  * Memory: in addition to its arguments, a call takes up to this many times the size of the input. This was measured
  * for inputs that consist of tiny parts only, which cost most. fv_section_open takes as many bytes as its contents have
  * if it has to decode them, and otherwise none. For LZMA it takes up to 6.1 MiB more, and if the stream does not say how
- * long the contents are, three times their bytes.
- * Stack: at most 20.5 KiB, as measured.
+ * long the contents are, three times their bytes. With FV_WITHOUT_MARKS, each call takes the bytes of its input more.
+ * Of address space, which a limit such as `ulimit -v` counts, the two calls that write digests take up to 16 times.
+ * Stack: at most 29 KiB in fv_section_open, and 20.5 KiB in every other call, as measured.
  *
  * Rules for the caller
  *   1. NULL. An input may be NULL if its size is 0, a buffer may be NULL if its room is 0, and `fault` may always be
@@ -56,13 +58,14 @@
  * input, as far as malloc, realloc and free allow this.
  *
  * Results: FV_OK is success. If several other results are possible, a call returns the first of them in this order:
- *   FV_BAD_ARGUMENT      A pointer breaks rule 1, 2 or 3, or the phase is not one of FV_PHASE_*. No input was read, and
- *                        nothing was written, not even `fault`.
+ *   FV_BAD_ARGUMENT      A pointer breaks rule 1, 2 or 3, the phase is not one of FV_PHASE_*, or a flag is unknown. No
+ *                        input was read, and nothing was written, not even `fault`.
  *   1 to 24, 0x201 ..,   The first fault of the input. FAULTS.md, which is installed beside the library's README, lists
  *   0x301 .., 0x401 ..   the faults and their order. 24 is out of memory, in every call. If memory runs out, a call
  *                        returns 24 instead of the result that it would have returned with more memory. (But a call
  *                        that reads an input as a volume returns 24 only if that input begins with the header of a
- *                        volume, and fv_sections_* only if the input has a section and all its headers are right.)
+ *                        volume, and fv_sections_* only if the input has a section and all its headers are right. With
+ *                        FV_WITHOUT_MARKS these calls can return 24 for any input.)
  *                        Only `fault` was written.
  *   FV_BAD_GUID          The text is not a GUID. Only fv_guid_parse returns this result. Nothing was written.
  *   FV_NOT_FOUND         The tree of the input has no row with the number that was passed. Returned only if the input
@@ -258,6 +261,13 @@ enum {
 
 /* The phase in which a dependency expression is evaluated. FV_PHASE_DXE is for DXE and for MM. */
 enum { FV_PHASE_PEI = 0, FV_PHASE_DXE = 1 };
+
+/* The flags of the calls fv_volume_*_with and fv_sections_*; 0 is no flag. With FV_WITHOUT_MARKS a call makes a copy of
+ * its input, takes the marks of fixed files away as fv_volume_unfix does, but also in the volumes in sections, and reads
+ * this copy. So fault 15 does not occur. Nothing is moved: offsets are those of the input. The attributes of a file are
+ * without bit 0x04, and digests and extracted bytes are those of the copy. The extracted bytes are for reading,
+ * comparing and archiving, and must not be flashed. */
+enum { FV_WITHOUT_MARKS = 1 };
 
 /* The value of a dependency expression. BEFORE and AFTER only say in which order drivers run, and have no truth value:
  * FV_DEPEX_ORDER. */
@@ -485,7 +495,8 @@ FV_CHECKED_ fv_result fv_volume_normalise(const void *volume, size_t size, void 
  * each fixed file, bit 0x04 of the attributes is cleared, and 4 is added to the header checksum (modulo 256), so all
  * checksums stay right. Files that are marked for update are among these files. All other bytes are the same as in the
  * input, also in pads, in deleted files and in nested volumes. A volume without fixed files is written as it is. The
- * calls that read the files of a volume reject a volume with fixed files (15), so pass them the output of this call.
+ * calls that read the files of a volume reject a volume with fixed files (15), so pass them the output of this call, or
+ * make the call that has the flag FV_WITHOUT_MARKS.
  * The output is for reading, comparing and archiving, and must not be flashed. Takes no memory. To learn which files
  * were fixed, ask fv_volume_cells for the cells of the result: a file was fixed if bit 0x04 of byte 19 of its header is
  * set in the input.
@@ -525,6 +536,10 @@ FV_CHECKED_ fv_result fv_volume_cells(const void *volume, size_t size, fv_cell *
 FV_CHECKED_ fv_result fv_volume_tree(const void *volume, size_t size, fv_node *rows, size_t room, size_t *count,
                                      fv_fault *fault);
 
+/* Does what fv_volume_tree does, as `flags` says: 0 or FV_WITHOUT_MARKS. */
+FV_CHECKED_ fv_result fv_volume_tree_with(const void *volume, size_t size, uint32_t flags, fv_node *rows, size_t room,
+                                          size_t *count, fv_fault *fault);
+
 /* Writes the SHA-256 digests of the parts of the volume, one for each row of fv_volume_tree, in the same order. Each
  * digest covers the bytes that fv_volume_extract writes for its row; so a volume's digest covers its canonical image,
  * as for fv_volume_digest. A section whose content is FV_CONTENT_SECTIONS or FV_CONTENT_VOLUME, and no other row, has
@@ -534,6 +549,10 @@ FV_CHECKED_ fv_result fv_volume_tree(const void *volume, size_t size, fv_node *r
  * unchanged. */
 FV_CHECKED_ fv_result fv_volume_tree_digests(const void *volume, size_t size, fv_sha256 *rows, size_t room,
                                              size_t *count, fv_fault *fault);
+
+/* Does what fv_volume_tree_digests does, as `flags` says: 0 or FV_WITHOUT_MARKS. */
+FV_CHECKED_ fv_result fv_volume_tree_digests_with(const void *volume, size_t size, uint32_t flags, fv_sha256 *rows,
+                                                  size_t room, size_t *count, fv_fault *fault);
 
 /* Writes the part of the volume that is row number `row` of fv_volume_tree to the start of the buffer, and the number
  * of its bytes to *length. They are the bytes that the canonical image of the volume has: for a volume its own
@@ -547,6 +566,10 @@ FV_CHECKED_ fv_result fv_volume_tree_digests(const void *volume, size_t size, fv
  * Leaves *length unchanged after a fault and after FV_NOT_FOUND. */
 FV_CHECKED_ fv_result fv_volume_extract(const void *volume, size_t size, size_t row, void *buffer, size_t buffer_size,
                                         size_t *length, fv_fault *fault);
+
+/* Does what fv_volume_extract does, as `flags` says: 0 or FV_WITHOUT_MARKS. */
+FV_CHECKED_ fv_result fv_volume_extract_with(const void *volume, size_t size, uint32_t flags, size_t row, void *buffer,
+                                             size_t buffer_size, size_t *length, fv_fault *fault);
 
 /* Reads what the header of the packed section with which the bytes begin says about its contents. Decodes nothing, and
  * takes no memory. The promised length is UncompressedLength of a compression section; in a GUID-defined section it is
@@ -572,31 +595,32 @@ FV_CHECKED_ fv_result fv_section_open(const void *section, size_t size, size_t l
  * opened: sections one after another, each at a multiple of 4 from the first byte. Writes a row for each section of the
  * stream and, in the same way, for what is in groups and volumes among them. Each row is followed by the rows of the
  * parts that it holds. The sections of the stream have depth 0 and the parent FV_NO_PARENT: the stream has no row.
- * Sets *count to the number of rows: 0 if the stream is empty. All else is as for fv_volume_tree.
+ * Sets *count to the number of rows: 0 if the stream is empty. `flags` is 0 or FV_WITHOUT_MARKS. All else is as for
+ * fv_volume_tree.
  * Returns FV_OK, or FV_BUFFER_TOO_SMALL if *count > room. Otherwise returns the first fault, 1 to 21, or 24, and leaves
  * *count unchanged. FV_FAULT_LENGTH comes first if size > FV_LENGTH_MAX. */
-FV_CHECKED_ fv_result fv_sections_tree(const void *sections, size_t size, fv_node *rows, size_t room, size_t *count,
-                                       fv_fault *fault);
+FV_CHECKED_ fv_result fv_sections_tree(const void *sections, size_t size, uint32_t flags, fv_node *rows, size_t room,
+                                       size_t *count, fv_fault *fault);
 
 /* Writes the SHA-256 digests of the parts of the stream, one for each row of fv_sections_tree, in the same order. Each
  * digest covers the bytes that fv_sections_extract writes for its row. A section whose content is FV_CONTENT_SECTIONS or
- * FV_CONTENT_VOLUME, and no other row, has 32 zero bytes instead of a digest. Sets *count to the number of digests. No
- * image is kept in memory.
+ * FV_CONTENT_VOLUME, and no other row, has 32 zero bytes instead of a digest. Sets *count to the number of digests.
+ * `flags` is 0 or FV_WITHOUT_MARKS. No image is kept in memory.
  * Returns FV_OK, or FV_BUFFER_TOO_SMALL if *count > room. Otherwise returns the first fault, 1 to 24, and leaves *count
  * unchanged: 22 or 23 if a volume in the stream does not fit in its canonical form. */
-FV_CHECKED_ fv_result fv_sections_tree_digests(const void *sections, size_t size, fv_sha256 *rows, size_t room,
-                                               size_t *count, fv_fault *fault);
+FV_CHECKED_ fv_result fv_sections_tree_digests(const void *sections, size_t size, uint32_t flags, fv_sha256 *rows,
+                                               size_t room, size_t *count, fv_fault *fault);
 
 /* Writes the part of the stream that is row number `row` of fv_sections_tree to the start of the buffer, and the number
  * of its bytes to *length. The bytes are in canonical form: for a volume its own canonical image, for a file its data as
  * the canonical image of its volume has them, for a section its body. In these bytes, a volume in a file or a section is
  * replaced by its own canonical image, and the bytes between sections are 0. The body of a section that holds bytes is
- * as it is in the input.
+ * as it is in the input. `flags` is 0 or FV_WITHOUT_MARKS.
  * Returns FV_OK, or FV_BUFFER_TOO_SMALL if buffer_size < *length. Returns FV_NOT_FOUND if the stream has no row with this
  * number. Otherwise returns the first fault, 1 to 21; or 22 or 23, if the part is a volume, or holds one, that does not
  * fit in its canonical form; or 24. For 22 and 23, fault->depth counts only the groups and opened volumes within the
  * part. Leaves *length unchanged after a fault and after FV_NOT_FOUND. */
-FV_CHECKED_ fv_result fv_sections_extract(const void *sections, size_t size, size_t row, void *buffer,
+FV_CHECKED_ fv_result fv_sections_extract(const void *sections, size_t size, uint32_t flags, size_t row, void *buffer,
                                           size_t buffer_size, size_t *length, fv_fault *fault);
 
 /* Evaluates the dependency expression with which the bytes begin, as if exactly the GUIDs of `installed` were

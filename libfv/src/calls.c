@@ -1,7 +1,9 @@
 /* SPDX-License-Identifier: BSD-2-Clause-Patent */
 /* The calls of fv.h that are made over proved calls. Each call checks its pointers, sizes and choices, and passes them
- * on to the proved call of the same name with the prefix fvp_, which has the same parameters. This layer reads no byte
- * of an input, and changes no result. This file is not proved: tests/libfv/arguments.c and tests/libfv/layer.c try it.
+ * on to the proved call of the same name with the prefix fvp_, which has the same parameters. In place of flags, a proved
+ * call has a truth value (whether the marks of fixed files are taken away), and fvp_volume_tree is the proved call of
+ * fv_volume_tree and of fv_volume_tree_with. This layer reads no byte of an input, and changes no result. This file is
+ * not proved: tests/libfv/arguments.c and tests/libfv/layer.c try it.
  *
  * The proved calls take slices and references, as Rattle and Rust do. So none of their pointers may be NULL, each
  * pointer must be aligned, a slice has at most half of the addresses, and a buffer or result must not overlap any other
@@ -69,15 +71,32 @@ INLINE void *buffer_of(void *pointer)
         return fvp_##name(input(bytes), size, buffer_of(rows), room, count, fault);                                   \
     }
 
-/* Defines a call that writes the part of a row of its input. */
-#define PART_CALL(name)                                                                                               \
-    fv_result fvp_##name(const void *, size_t, size_t, void *, size_t, size_t *, fv_fault *);                         \
-    fv_result fv_##name(const void *bytes, size_t size, size_t row, void *buffer, size_t buffer_size, size_t *length, \
+/* Returns FV_BAD_ARGUMENT from the call if a flag is unknown. */
+#define CHECK_FLAGS \
+    if (!LIKELY((flags & ~(uint32_t)FV_WITHOUT_MARKS) == 0)) return FV_BAD_ARGUMENT
+
+/* Defines a call with flags that writes rows about its input, over the proved call of this name. */
+#define ROWS_CALL_WITH(name, proved, type)                                                                            \
+    fv_result fvp_##proved(const void *, size_t, bool, type *, size_t, size_t *, fv_fault *);                         \
+    fv_result fv_##name(const void *bytes, size_t size, uint32_t flags, type *rows, size_t room, size_t *count,       \
                         fv_fault *fault)                                                                              \
     {                                                                                                                 \
-        NEEDS_FAULT(fv_##name(bytes, size, row, buffer, buffer_size, length, &unwanted))                              \
+        NEEDS_FAULT(fv_##name(bytes, size, flags, rows, room, count, &unwanted))                                      \
+        CHECK_FLAGS;                                                                                                  \
+        CHECK(BYTES(bytes, size), ROWS(rows, room), RESULT(count));                                                   \
+        return fvp_##proved(input(bytes), size, flags != 0, buffer_of(rows), room, count, fault);                     \
+    }
+
+/* Defines a call with flags that writes the part of a row of its input, over the proved call of this name. */
+#define PART_CALL_WITH(name, proved)                                                                                  \
+    fv_result fvp_##proved(const void *, size_t, bool, size_t, void *, size_t, size_t *, fv_fault *);                 \
+    fv_result fv_##name(const void *bytes, size_t size, uint32_t flags, size_t row, void *buffer, size_t buffer_size, \
+                        size_t *length, fv_fault *fault)                                                              \
+    {                                                                                                                 \
+        NEEDS_FAULT(fv_##name(bytes, size, flags, row, buffer, buffer_size, length, &unwanted))                       \
+        CHECK_FLAGS;                                                                                                  \
         CHECK(BYTES(bytes, size), BUFFER(buffer, buffer_size), RESULT(length));                                       \
-        return fvp_##name(input(bytes), size, row, buffer_of(buffer), buffer_size, length, fault);                    \
+        return fvp_##proved(input(bytes), size, flags != 0, row, buffer_of(buffer), buffer_size, length, fault);      \
     }
 
 VALUE_CALL(header_read, fv_header)
@@ -90,12 +109,29 @@ IMAGE_CALL(volume_unfix)
 ROWS_CALL(image_scan, fv_header)
 ROWS_CALL(image_check, fv_volume_check)
 ROWS_CALL(volume_cells, fv_cell)
-ROWS_CALL(volume_tree, fv_node)
-ROWS_CALL(volume_tree_digests, fv_sha256)
-ROWS_CALL(sections_tree, fv_node)
-ROWS_CALL(sections_tree_digests, fv_sha256)
-PART_CALL(volume_extract)
-PART_CALL(sections_extract)
+ROWS_CALL_WITH(volume_tree_with, volume_tree, fv_node)
+ROWS_CALL_WITH(volume_tree_digests_with, volume_tree_digests, fv_sha256)
+ROWS_CALL_WITH(sections_tree, sections_tree, fv_node)
+ROWS_CALL_WITH(sections_tree_digests, sections_tree_digests, fv_sha256)
+PART_CALL_WITH(volume_extract_with, volume_extract)
+PART_CALL_WITH(sections_extract, sections_extract)
+
+fv_result fv_volume_tree(const void *volume, size_t size, fv_node *rows, size_t room, size_t *count, fv_fault *fault)
+{
+    return fv_volume_tree_with(volume, size, 0, rows, room, count, fault);
+}
+
+fv_result fv_volume_tree_digests(const void *volume, size_t size, fv_sha256 *rows, size_t room, size_t *count,
+                                 fv_fault *fault)
+{
+    return fv_volume_tree_digests_with(volume, size, 0, rows, room, count, fault);
+}
+
+fv_result fv_volume_extract(const void *volume, size_t size, size_t row, void *buffer, size_t buffer_size,
+                            size_t *length, fv_fault *fault)
+{
+    return fv_volume_extract_with(volume, size, 0, row, buffer, buffer_size, length, fault);
+}
 
 fv_result fv_volume_compare(const void *first, size_t first_size, const void *second, size_t second_size, char *text,
                             size_t text_size, fv_comparison *found, fv_fault *fault)

@@ -36,7 +36,7 @@ static const struct entry entries[] = {
     {FV_OUT_OF_MEMORY, "out of memory"},
     {FV_BUFFER_TOO_SMALL, "the buffer is too small"},
     {FV_NOT_FOUND, "the tree of the volume has no row with this number"},
-    {FV_BAD_ARGUMENT, "an argument is not allowed: a null or misaligned pointer, an overlap, or an unknown phase"},
+    {FV_BAD_ARGUMENT, "an argument is not allowed: a null or misaligned pointer, an overlap, an unknown phase or flag"},
     {FV_BAD_GUID, "the text is not a GUID: 8-4-4-4-12 hexadecimal digits"},
     {FV_FAULT_DEPEX_SHORT, "the GUID of an op is cut short"},
     {FV_FAULT_DEPEX_OPCODE, "an op code is unknown in this phase"},

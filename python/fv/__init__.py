@@ -25,9 +25,10 @@
     fv.version()                    the version of the library
 
 The functions have the names of the calls in fv.h, without `fv_`. (fv_guid_text and fv_guid_parse have no function here:
-a GUID is a uuid.UUID.) An `image` may be any bytes, a `volume` must be exactly one volume, and `sections` must be
-exactly one stream of sections. `data` begin with the volume, the section or the list that is read, and the bytes after
-it are ignored.
+a GUID is a uuid.UUID.) In place of the calls fv_volume_.._with, the functions that return trees, digests and parts have
+an argument `without_marks`: if it is true, the input is read as if no file at any depth were marked as fixed. An
+`image` may be any bytes, a `volume` must be exactly one volume, and `sections` must be exactly one stream of sections.
+`data` begin with the volume, the section or the list that is read, and the bytes after it are ignored.
 
 An input may be any object with the buffer protocol: bytes, bytearray, memoryview, mmap. A bytes object is read in
 place, and so is a memoryview of a bytes object. Any other buffer is copied first, since something else may write to it

@@ -78,6 +78,12 @@ def _rows(address: Any, size: int, call: Callable[..., int], rows: type[Rows[Ite
     return rows(buffer[: row_size * _SIZE.unpack(count)[0]])
 
 
+def _with(call: Callable[..., int], without_marks: bool) -> Callable[..., int]:
+    """Returns a call with its flags: a function that takes the other arguments."""
+    flags = native.WITHOUT_MARKS if without_marks else 0
+    return lambda address, size, *rest: call(address, size, flags, *rest)
+
+
 def version() -> str:
     """Returns the version of the library that is loaded."""
     text: bytes = lib.fv_version()
@@ -125,7 +131,8 @@ def volume_normalise(volume: Buffer, *, copy: bool = True) -> bytes:
 def volume_unfix(volume: Buffer, *, copy: bool = True) -> bytes:
     """Returns a copy of a volume in which no file is marked as fixed. The data must be exactly that volume, and the
     copy has its length. The functions that read the files of a volume reject a volume with fixed files (FIXED), but
-    accept the copy. The files of nested volumes keep their marks. The copy must not be flashed."""
+    accept the copy. The files of nested volumes keep their marks, but volume_tree and the functions after it take these
+    away too, if `without_marks` is true. The copy must not be flashed."""
     return _over(volume, copy, _image, lib.fv_volume_unfix)
 
 
@@ -156,18 +163,20 @@ def volume_cells(data: Buffer, *, copy: bool = True) -> Sequence[Cell]:
     return _over(data, copy, _rows, lib.fv_volume_cells, Cells)
 
 
-def volume_tree(volume: Buffer, *, copy: bool = True) -> Sequence[Node]:
+def volume_tree(volume: Buffer, *, without_marks: bool = False, copy: bool = True) -> Sequence[Node]:
     """Returns the whole tree of a volume, in preorder: the volume, its files, their sections and, in the same way, each
-    volume that a section holds. All offsets count from the first byte of the data, which must be exactly that
-    volume."""
-    return _over(volume, copy, _rows, lib.fv_volume_tree, Nodes)
+    volume that a section holds. All offsets count from the first byte of the data, which must be exactly that volume.
+    If `without_marks` is true, the volume is read as if no file at any depth were marked as fixed."""
+    return _over(volume, copy, _rows, _with(lib.fv_volume_tree_with, without_marks), Nodes)
 
 
-def volume_tree_digests(volume: Buffer, *, copy: bool = True) -> Sequence[bytes | None]:
+def volume_tree_digests(
+    volume: Buffer, *, without_marks: bool = False, copy: bool = True
+) -> Sequence[bytes | None]:
     """Returns the SHA-256 digest for each row of volume_tree, in the same order. A volume's digest covers its canonical
     image, a file's digest its data in that image, and the digest of a section that holds bytes its body. A section that
-    holds sections or a volume has None."""
-    return _over(volume, copy, _rows, lib.fv_volume_tree_digests, Digests)
+    holds sections or a volume has None. `without_marks` is as in volume_tree."""
+    return _over(volume, copy, _rows, _with(lib.fv_volume_tree_digests_with, without_marks), Digests)
 
 
 def _part(address: Any, size: int, call: Any, number: int) -> bytes:
@@ -186,12 +195,15 @@ def _number(row: SupportsIndex) -> int:
     return number
 
 
-def volume_extract(volume: Buffer, row: SupportsIndex, *, copy: bool = True) -> bytes:
+def volume_extract(
+    volume: Buffer, row: SupportsIndex, *, without_marks: bool = False, copy: bool = True
+) -> bytes:
     """Returns the bytes of a part as the canonical image has them. `row` is the number of the part's row in
     volume_tree(volume). A volume's row gives its canonical image, a file's row its data, and a section's row its body.
     Raises IndexError if there is no row with this number. If a volume in the part does not fit (NO_ROOM,
-    TOP_ALIGNMENT), the depth of the fault counts only groups and opened volumes inside the part."""
-    return _over(volume, copy, _part, lib.fv_volume_extract, _number(row))
+    TOP_ALIGNMENT), the depth of the fault counts only groups and opened volumes inside the part. `without_marks` is as
+    in volume_tree; then no file in the result is marked as fixed, and the result must not be flashed."""
+    return _over(volume, copy, _part, _with(lib.fv_volume_extract_with, without_marks), _number(row))
 
 
 def section_way(section: Buffer, *, copy: bool = True) -> Packed:
@@ -227,24 +239,30 @@ def section_open(section: Buffer, limit: SupportsIndex = native.LENGTH_MAX, *, c
     return _over(section, copy, _opened, min(most, 2**63 - 1))
 
 
-def sections_tree(sections: Buffer, *, copy: bool = True) -> Sequence[Node]:
+def sections_tree(sections: Buffer, *, without_marks: bool = False, copy: bool = True) -> Sequence[Node]:
     """Returns the whole tree of a stream of sections, in preorder: its sections and, in the same way, what is in groups
     and volumes among them. A stream is what a compressed or GUID-defined section holds when it is opened. Its sections
-    have depth 0 and no parent. All offsets count from the first byte of the data, which must be exactly that stream."""
-    return _over(sections, copy, _rows, lib.fv_sections_tree, Nodes)
+    have depth 0 and no parent. All offsets count from the first byte of the data, which must be exactly that stream.
+    `without_marks` is as in volume_tree."""
+    return _over(sections, copy, _rows, _with(lib.fv_sections_tree, without_marks), Nodes)
 
 
-def sections_tree_digests(sections: Buffer, *, copy: bool = True) -> Sequence[bytes | None]:
+def sections_tree_digests(
+    sections: Buffer, *, without_marks: bool = False, copy: bool = True
+) -> Sequence[bytes | None]:
     """Returns the SHA-256 digest for each row of sections_tree, in the same order. The digest covers the bytes that
-    sections_extract returns for the row. A section that holds sections or a volume has None."""
-    return _over(sections, copy, _rows, lib.fv_sections_tree_digests, Digests)
+    sections_extract returns for the row. A section that holds sections or a volume has None. `without_marks` is as in
+    volume_tree."""
+    return _over(sections, copy, _rows, _with(lib.fv_sections_tree_digests, without_marks), Digests)
 
 
-def sections_extract(sections: Buffer, row: SupportsIndex, *, copy: bool = True) -> bytes:
+def sections_extract(
+    sections: Buffer, row: SupportsIndex, *, without_marks: bool = False, copy: bool = True
+) -> bytes:
     """Returns the bytes of a part of a stream of sections in canonical form. `row` is the number of the part's row in
     sections_tree(sections). A volume's row gives its canonical image, a file's row its data in that image, and a
-    section's row its body. Raises what volume_extract raises."""
-    return _over(sections, copy, _part, lib.fv_sections_extract, _number(row))
+    section's row its body. `without_marks` is as in volume_extract. Raises what volume_extract raises."""
+    return _over(sections, copy, _part, _with(lib.fv_sections_extract, without_marks), _number(row))
 
 
 def depex_evaluate(

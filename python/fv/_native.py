@@ -28,6 +28,13 @@ NOT_FOUND = 0x101
 BAD_ARGUMENT = 0x102
 BAD_GUID = 0x103
 
+# The flags of the calls fv_volume_*_with and fv_sections_*; 0 is no flag. With FV_WITHOUT_MARKS a call makes a copy
+# of its input, takes the marks of fixed files away as fv_volume_unfix does, but also in the volumes in sections, and
+# reads this copy. So fault 15 does not occur. Nothing is moved: offsets are those of the input. The attributes of a
+# file are without bit 0x04, and digests and extracted bytes are those of the copy. The extracted bytes are for
+# reading, comparing and archiving, and must not be flashed.
+WITHOUT_MARKS = 1
+
 # The value of a dependency expression. BEFORE and AFTER only say in which order drivers run, and have no truth value:
 # FV_DEPEX_ORDER.
 DEPEX_FALSE = 0
@@ -66,13 +73,16 @@ CALLS: dict[str, tuple[Any, list[Any]]] = {
     "fv_volume_compare": (_u32, [_pointer, _size, _pointer, _size, _pointer, _size]),
     "fv_volume_cells": (_u32, [_pointer, _size, _pointer, _size]),
     "fv_volume_tree": (_u32, [_pointer, _size, _pointer, _size]),
+    "fv_volume_tree_with": (_u32, [_pointer, _size, _u32, _pointer, _size]),
     "fv_volume_tree_digests": (_u32, [_pointer, _size, _pointer, _size]),
+    "fv_volume_tree_digests_with": (_u32, [_pointer, _size, _u32, _pointer, _size]),
     "fv_volume_extract": (_u32, [_pointer, _size, _size, _pointer, _size]),
+    "fv_volume_extract_with": (_u32, [_pointer, _size, _u32, _size, _pointer, _size]),
     "fv_section_way": (_u32, [_pointer, _size]),
     "fv_section_open": (_u32, [_pointer, _size, _size, _pointer, _size]),
-    "fv_sections_tree": (_u32, [_pointer, _size, _pointer, _size]),
-    "fv_sections_tree_digests": (_u32, [_pointer, _size, _pointer, _size]),
-    "fv_sections_extract": (_u32, [_pointer, _size, _size, _pointer, _size]),
+    "fv_sections_tree": (_u32, [_pointer, _size, _u32, _pointer, _size]),
+    "fv_sections_tree_digests": (_u32, [_pointer, _size, _u32, _pointer, _size]),
+    "fv_sections_extract": (_u32, [_pointer, _size, _u32, _size, _pointer, _size]),
     "fv_depex_evaluate": (_u32, [_pointer, _size, _u32, _pointer, _size]),
     "fv_hobs_read": (_u32, [_pointer, _size, _pointer, _size]),
 }

@@ -7,12 +7,12 @@ compressed sections.
     for volume, file in fv.images.files_in(image):
         print(volume.offset, file.guid, file.name)
 
-libfv reads volumes. The contents of an opened section are not a volume, so this module reads the sections in them,
-which is not proved. An image is not trusted, so `fv.limits` limits how much of it is opened and read."""
+libfv reads volumes, and opens sections. The contents of an opened section are not a volume, so this module reads the
+sections in them, which is not proved. An image is not trusted, so `fv.limits` limits how much of it is opened and
+read."""
 
 from __future__ import annotations
 
-import contextlib
 import functools
 import struct
 import uuid
@@ -173,6 +173,11 @@ class Section(Part):
     closed: str = ""
 
     @property
+    def whole(self) -> memoryview:
+        """Returns the bytes of the section with its header, without copying them."""
+        return memoryview(self.data)[self.offset - self.header_length : self.end]
+
+    @property
     def is_packed(self) -> bool:
         """Returns whether the section may be opened."""
         return self.kind in PACKED
@@ -218,7 +223,7 @@ class Content:
 @dataclass
 class Opened(Content):
     """The contents of a section, and how it was opened. `doubts` are the reasons, in words, why the contents may be
-    wrong or incomplete: a checksum that is wrong, or bytes after the end of the packed data."""
+    wrong or incomplete: a checksum that is wrong, or a signature that is not verified."""
 
     way: Way
     doubts: list[str]
@@ -380,10 +385,11 @@ class Reader:
         """Returns the contents of a section. Raises Closed or Full if it is not opened."""
         if depth >= self._budget.limits.depth:
             raise Closed("too deep")
-        way, data, doubts = open_section(section.kind, section.header_length, section.body, self._budget)
+        found = open_section(section.whole, section.header_length, self._budget)
+        data = found.contents
         with self._budget.attempt():
             sections, end = self._stream(data, 0, len(data), 0)
-            return self._with_unread(Opened(data, sections, self._volumes(data, end), end, [], way, doubts))
+            return self._with_unread(Opened(data, sections, self._volumes(data, end), end, [], found.way, found.doubts))
 
     def _stream(self, data: bytes, start: int, end: int, depth: int) -> tuple[list[Section], int]:
         """Returns the sections in some bytes, and the offset at which the last one ends, with its filler."""
@@ -557,31 +563,17 @@ def _tree_of(volume: memoryview) -> tuple[Sequence[Node], bool]:
     except FaultError as error:
         if error.fault.code != FaultCode.FIXED:
             raise
-    return volume_tree(unmarked(volume)), True
+    return volume_tree(volume, without_marks=True), True
 
 
 def unmarked(volume: bytes | memoryview) -> bytes:
     """Returns a volume without the marks of fixed files, also of those in its nested volumes. libfv removes the marks
     of one volume. The bytes of a file header keep their sum, so the checksums of the files around it stay right."""
-    whole = bytearray(volume_unfix(volume))
-    places = [(0, len(whole))]
-    for start, end in places:
-        for at, after in _nested_places(bytes(whole[start:end])):
-            with contextlib.suppress(FaultError):  # it is rejected with the volume around it
-                whole[start + at : start + after] = volume_unfix(whole[start + at : start + after])
-                places.append((start + at, start + after))
+    whole = bytearray(volume)
+    for row in volume_tree(volume, without_marks=True):
+        if row.kind == NodeKind.VOLUME:
+            whole[row.offset : row.offset + row.length] = volume_unfix(whole[row.offset : row.offset + row.length])
     return bytes(whole)
-
-
-def _nested_places(volume: bytes) -> Iterator[tuple[int, int]]:
-    """Yields where the volumes in the sections of a volume begin and end. No file of the volume is marked fixed."""
-    for cell in volume_cells(volume):
-        if cell.kind == CellKind.FILE and cell.efi_type != names.RAW_FILE:
-            streams = [(cell.offset + (cell.header_length or 0), cell.offset + cell.length)]
-            for start, end in streams:
-                found = list(frames(volume, start, end))
-                streams += [(it.body, it.end) for it in found if it.kind == names.GROUP]
-                yield from ((it.body, it.end) for it in found if it.kind == names.VOLUME)
 
 
 def _note_marks(volume: Volume) -> None:

@@ -13,22 +13,18 @@ from dataclasses import dataclass
 @dataclass(frozen=True)
 class Limits:
     """The limits for one image. A small image may hold less than a large one: `least` bytes and `times` its own length,
-    and `slow_least` symbols and `slow_times` its own length, as far as the other limits allow."""
+    as far as the other limits allow."""
 
     total: int = 1 << 30  # bytes of the image and of all opened contents
     least: int = 1 << 27
     times: int = 32
     section: int = 1 << 28  # bytes that one section holds
-    slow: int = 1 << 25  # symbols in all sections that Python itself has to unpack
-    slow_least: int = 1 << 21
-    slow_times: int = 8
     wasted: int = 1 << 30  # bytes that are unpacked or read, but not kept
     sections: int = 1_000  # sections that are opened
     parts: int = 100_000  # volumes, files and sections; a volume counts as four
     headers: int = 100_000  # headers of volumes that are looked at
     header_bytes: int = 1 << 26  # bytes of these headers
     depth: int = 8  # opened sections inside one another, and groups inside one another
-    memory: int = 1 << 29  # bytes of memory for a decoder of LZMA
     signatures: int = 1_000_000  # places that look like the signature of a volume
 
     @property
@@ -49,7 +45,6 @@ class Budget:
         self.limits = limits
         self._most = {
             "bytes": max(size, min(limits.total, size + limits.least + limits.times * size)),
-            "symbols of slow compression": min(limits.slow, limits.slow_least + limits.slow_times * size),
             "sections": limits.sections,
             "parts": limits.parts,
             "headers of volumes": limits.headers,
@@ -63,6 +58,10 @@ class Budget:
             raise Full(f"{limits.total} bytes")
         self.take("bytes", size)
 
+    def left(self, what: str) -> int:
+        """Returns how many more may be taken."""
+        return max(self._most[what] - self._taken[what], 0)
+
     def check(self, what: str, count: int = 1) -> None:
         """Checks that this many more may be taken."""
         if self._taken[what] + count > self._most[what]:
@@ -72,11 +71,6 @@ class Budget:
         """Takes this many. If they are too many, nothing is left."""
         self._taken[what] += count
         self.check(what, 0)
-
-    def work(self, count: int) -> None:
-        """Takes symbols that Python itself unpacks. If they are too many, all are left."""
-        self.check("symbols of slow compression", count)
-        self.take("symbols of slow compression", count)
 
     def count(self, parts: int) -> None:
         """Takes parts."""

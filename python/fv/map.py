@@ -9,7 +9,7 @@ fixed files is drawn without their marks, and the page says which files are fixe
 trusted: the page escapes them, and forbids scripts and anything from outside.
 
 The page says whether everything was read. If not, a table lists each part that was not read, with the reason: a
-rejected volume, a section that is not opened or whose checksum is wrong, a pad or a deleted file with contents, and
+rejected volume, a section that is not opened or whose contents may be wrong, a pad or a deleted file with contents, and
 bytes that are in no volume and are not erased.
 
 Exit status 0: the page is written, and everything was read. 1: the page is written, but an image has no volume, not

@@ -1,31 +1,33 @@
 # SPDX-License-Identifier: BSD-2-Clause-Patent
-"""Opens sections that libfv keeps whole: compressed sections, and sections that a GUID defines.
+"""Opens sections that libfv keeps whole when it reads a volume: compressed sections, and sections that a GUID defines.
 
-`open_section` returns the contents of a section. This is not proved, and an image is not trusted, so a budget limits
-how much is unpacked (`fv.limits`)."""
+`open_section` returns the contents of a section. libfv opens the section, which is proved. Only sections of Brotli are
+opened by Python's module `brotli`, which is not proved. An image is not trusted, so a budget limits how much is
+unpacked (`fv.limits`)."""
 
 from __future__ import annotations
 
-import functools
 import importlib
 import io
-import lzma
-import struct
 import uuid
-import zlib
-from collections.abc import Callable, Iterator
+from collections.abc import Iterator
 from dataclasses import dataclass
 from typing import Any
 
-from . import _tiano
-from .limits import Budget, Full
+from . import _native as native
+from ._calls import section_open, section_way
+from ._errors import FaultError
+from ._native import FaultCode
+from ._types import Packed
+from .limits import Budget
 from .names import COMPRESSION, GUIDED
 
 PACKED = (COMPRESSION, GUIDED)  # types of sections that may be opened
-STEP = 1 << 20  # bytes that a decoder unpacks before they are counted
-GUID_HEADER = 20  # bytes of the body before the data: the GUID, DataOffset, attributes
-CRC32_AT = GUID_HEADER  # where the body of a CRC32 section has the sum of its data
-COMPRESSION_HEADER = 5  # bytes of the body before the data: the length of the contents, and a type
+GUID_HEADER = 20  # bytes after the section header: the GUID, DataOffset, Attributes
+OFFSET_AT, ATTRIBUTES_AT = 16, 18  # where they have DataOffset and Attributes
+HAS_SIGNATURE = 0x02  # of Attributes: the section has data by which its contents can be authenticated
+SLACK = 1 << 18  # bytes that contents may always have, whatever their header says
+BROTLI = uuid.UUID("3d532050-5cda-4fd0-879e-0f7f630d5afb")
 BROTLI_HEADER = 16  # bytes before the stream: the length of the contents, and of the memory that EDK II takes
 BROTLI_STEP = 16  # bytes of a stream that are unpacked at a time: Python's brotli does not limit its output
 BROTLI_PIECE = 1 << 24  # bytes that this few bytes may hold
@@ -50,181 +52,136 @@ class Frame:
 
 
 @dataclass(frozen=True)
-class Packed:
-    """What a section holds before it is opened: the header of its data, which is part of the body, and the data.
-    `doubts` takes the reasons, in words, why the contents may be wrong or incomplete."""
-
-    header: bytes
-    data: bytes
-    doubts: list[str]
-
-
-@dataclass(frozen=True)
 class Way:
-    """A way to open a section: its name, the name of the folder for the contents, and a function that yields the
-    contents piece by piece."""
+    """A way to open a section: its name, and the name of the folder for the contents."""
 
     name: str
     folder: str
-    unpack: Callable[[Packed, Budget], Iterator[bytes]]
 
 
-def from_crc32(packed: Packed, _: Budget) -> Iterator[bytes]:
-    """Yields the data of a CRC32 section, and compares their sum with the sum in the section."""
-    stored = packed.header[CRC32_AT : CRC32_AT + 4]
-    if stored != zlib.crc32(packed.data).to_bytes(4, "little"):
-        packed.doubts.append("the CRC32 is wrong")
-    yield packed.data
+# The ways of libfv. No contents have the two ways without a folder: a header has them, before anything is unpacked.
+WAYS = {
+    native.Way.STORED: Way("stored", "stored"),
+    native.Way.STANDARD: Way("compression", ""),
+    native.Way.UEFI: Way("UEFI compression", "uefi"),
+    native.Way.TIANO: Way("Tiano compression", "tiano"),
+    native.Way.CUSTOMIZED: Way("LZMA", ""),
+    native.Way.LZMA: Way("LZMA", "lzma"),
+    native.Way.LZMA_X86: Way("LZMA of x86 code", "lzma-x86"),
+    native.Way.CRC32: Way("CRC32", "crc32"),
+    native.Way.SIGNED: Way("signed contents", "signed"),
+    native.Way.PLAIN: Way("plain contents", "plain"),
+}
+BY_BROTLI = Way("Brotli", "brotli")
 
 
-def from_lzma(packed: Packed, budget: Budget) -> Iterator[bytes]:
-    """Yields the contents of LZMA data."""
-    data = packed.data
+@dataclass
+class Unpacked:
+    """The contents of a section, the way that gave them, and the reasons, in words, why they may be wrong or
+    incomplete."""
+
+    way: Way
+    contents: bytes
+    doubts: list[str]
+
+
+def open_section(section: memoryview, header_length: int, budget: Budget) -> Unpacked:
+    """Returns the contents of a section. `section` is all of it, with a header of `header_length` bytes. Raises Closed
+    if no way is known or the data are damaged, and Full if the budget does not suffice."""
+    budget.open()
+    limit = min(budget.limits.section, budget.left("bytes"))
+    if section[3] == GUIDED and section[header_length : header_length + OFFSET_AT] == BROTLI.bytes_le:
+        found = _by_brotli(section, header_length, limit, budget)
+    else:
+        found = _by_libfv(section, header_length, limit, budget)
+    budget.take("bytes", len(found.contents))
+    return found
+
+
+def _by_libfv(section: memoryview, header_length: int, limit: int, budget: Budget) -> Unpacked:
+    """Returns the contents that libfv finds.
+
+    The calls do not say how much they had unpacked when they failed. So a section that is not opened counts as if the
+    limit had been reached. A length that the header promises lowers the limit, because some vendors store another
+    length, but not a quite different one. (For two ways libfv may decode the data twice, each time up to the limit.)"""
+    packed = _way_of(section, header_length)
+    way, doubts = packed.way, list[str]()
+    if packed.promised is not None and way != native.Way.STORED:
+        if section[3] == GUIDED and packed.promised > limit:  # with a GUID, the contents never have another length
+            raise _too_long(_named(way), packed.promised, budget)
+        limit = min(limit, 2 * packed.promised + SLACK)
+    budget.wasted += limit
     try:
-        decoder = lzma.LZMADecompressor(lzma.FORMAT_ALONE, budget.limits.memory)
-        while not decoder.eof:
-            piece = decoder.decompress(data, STEP)
-            if not piece and not decoder.eof:
-                raise Closed("LZMA: the data are cut short")
-            yield piece
-            data = b""
-        _note_rest(packed, decoder.unused_data)
-    except lzma.LZMAError as error:
-        budget.wasted += STEP  # the decoder does not say how much of the last piece it had unpacked
-        raise Closed(f"LZMA: {error}") from error
+        found = section_open(section, limit)
+        way, contents = found.way, found.contents
+    except FaultError as error:
+        if error.fault.code == FaultCode.OPEN_TOO_LONG:
+            raise _too_long(_named(way), limit + 1, budget) from error
+        if error.fault.code != FaultCode.OPEN_SUM:
+            raise Closed(f"{_named(way).name}: section {error}") from error
+        contents = bytes(section[packed.data_offset :])
+        doubts.append("the CRC32 is wrong")
+    # For CUSTOMIZED, libfv may have decoded the data from another place on first.
+    budget.wasted -= len(contents) if packed.way == native.Way.CUSTOMIZED else limit
+    is_signed = way == native.Way.PLAIN and section[header_length + ATTRIBUTES_AT] & HAS_SIGNATURE
+    if is_signed or way == native.Way.SIGNED:
+        doubts.append("the signature is not verified")
+    if section[3] == COMPRESSION and len(contents) != packed.promised:
+        doubts.append("the contents have another length than the header says")
+    return Unpacked(_named(way), contents, doubts)
 
 
-def _note_rest(packed: Packed, rest: bytes) -> None:
-    """Notes that bytes follow the packed data, unless they are filler."""
-    if not is_erased(rest, 0, len(rest)):
-        packed.doubts.append(f"{len(rest)} bytes follow the packed data")
+def _named(way: native.Way) -> Way:
+    """Returns a way with its name. A library that is newer than this package may have further ways."""
+    return WAYS.get(way, Way(f"way {way}", "opened"))
 
 
-def from_lzma_of_x86(packed: Packed, budget: Budget) -> Iterator[bytes]:
-    """Yields the contents of LZMA data, and replaces the addresses in the calls of x86 code by the distances that they
-    had before.
-
-    `lzma` has this filter only together with a compression. So the bytes go through LZMA2 without being compressed: in
-    chunks of at most 64 KiB. The control byte of the first chunk is 1, the control bytes of the others are 2, and a
-    zero ends the data."""
-    filters: list[dict[str, Any]] = [{"id": lzma.FILTER_X86}, {"id": lzma.FILTER_LZMA2, "preset": 0}]
-    decoder = lzma.LZMADecompressor(lzma.FORMAT_RAW, filters=filters)
-    control = 1
-    for piece in from_lzma(packed, budget):
-        for at in range(0, len(piece), 1 << 16):
-            chunk = piece[at : at + (1 << 16)]
-            yield decoder.decompress(struct.pack(">BH", control, len(chunk) - 1) + chunk)
-            control = 2
-    yield decoder.decompress(b"\0")
+def _way_of(section: memoryview, header_length: int) -> Packed:
+    """Returns what the header of a section says."""
+    try:
+        return section_way(section)
+    except FaultError as error:
+        if error.fault.code != FaultCode.OPEN_WAY:
+            raise Closed(f"section {error}") from error
+    if section[3] == COMPRESSION:
+        raise Closed(f"compression of the unknown type {section[header_length + 4]}")
+    raise Closed(f"unknown GUID {uuid.UUID(bytes_le=bytes(section[header_length : header_length + OFFSET_AT]))}")
 
 
-def from_brotli(packed: Packed, budget: Budget) -> Iterator[bytes]:
-    """Yields the contents of Brotli data, if Python's module for it is installed."""
-    data = packed.data
+def _too_long(way: Way, length: int, budget: Budget) -> Closed:
+    """Returns the reason why contents of this length, or longer ones, are not unpacked. Raises Full if the budget has
+    not as much left."""
+    if length <= budget.limits.section:
+        budget.check("bytes", length)
+    return Closed(f"{way.name}: more than {min(length - 1, budget.limits.section)} bytes")
+
+
+def _by_brotli(section: memoryview, header_length: int, limit: int, budget: Budget) -> Unpacked:
+    """Returns the contents of a section of Brotli data, if Python's module for it is installed."""
+    start = int.from_bytes(section[header_length + OFFSET_AT : header_length + ATTRIBUTES_AT], "little")
+    data = bytes(section[start:])
+    if start < header_length + GUID_HEADER or len(data) < BROTLI_HEADER:
+        raise Closed("Brotli: the data are cut short")
     try:
         brotli: Any = importlib.import_module("brotli")
     except ImportError:
         raise Closed(NO_BROTLI) from None
-    if len(data) < BROTLI_HEADER:
-        raise Closed("Brotli: the data are cut short")
-    (left,), decoder = struct.unpack_from("<Q", data), brotli.Decompressor()
+    length, decoder, found, at = int.from_bytes(data[:8], "little"), brotli.Decompressor(), io.BytesIO(), BROTLI_HEADER
+    if length > limit:
+        raise _too_long(BY_BROTLI, length, budget)
+    budget.wasted += length + BROTLI_PIECE
     try:
-        for at in range(BROTLI_HEADER, len(data), BROTLI_STEP):
-            piece = decoder.process(data[at : at + BROTLI_STEP])
-            left -= len(piece)
-            yield piece
-            if decoder.is_finished() or left < 0:
-                _note_rest(packed, data[at + BROTLI_STEP :])
-                break
+        while at < len(data) and found.tell() <= length and not decoder.is_finished():
+            found.write(decoder.process(data[at : at + BROTLI_STEP]))
+            at += BROTLI_STEP
     except brotli.error as error:
-        budget.wasted += BROTLI_PIECE  # the decoder does not say how much of the last piece it had unpacked
         raise Closed(f"Brotli: {error}") from error
-    if left or not decoder.is_finished():
+    if found.tell() != length or not decoder.is_finished():
         raise Closed("Brotli: the contents have another length than the header says")
-
-
-def from_compression(packed: Packed, budget: Budget, widths: tuple[int, ...]) -> Iterator[bytes]:
-    """Yields the contents of data with the compression of the UEFI specification, or with Tiano's. Some data fit both.
-    Then the contents that are sections are right."""
-    found, reasons = [], []
-    for width in widths:
-        try:
-            found.append(_tiano.unpacked(packed.data, width, budget.limits.section, budget.work))
-        except _tiano.Damaged as error:
-            reasons.append(str(error))
-        else:
-            if are_sections(found[-1], 0, len(found[-1]), len(found[-1])):
-                yield found[-1]
-                return
-    if not found:
-        raise Closed(f"compression: {reasons[0]}")
-    yield found[0]
-
-
-_either = functools.partial(from_compression, widths=(_tiano.UEFI, _tiano.TIANO))
-_tiano_only = functools.partial(from_compression, widths=(_tiano.TIANO,))
-# The ways by the type of a compression section.
-COMPRESSIONS = {
-    0: Way("stored", "stored", lambda packed, _: iter([packed.data])),
-    1: Way("UEFI compression", "uefi", _either),
-}
-# The ways by the GUID of a GUID-defined section.
-GUIDS = {
-    uuid.UUID("ee4e5898-3914-4259-9d6e-dc7bd79403cf"): Way("LZMA", "lzma", from_lzma),
-    uuid.UUID("d42ae6bd-1352-4bfb-909a-ca72a6eae889"): Way("LZMA of x86 code", "lzma-x86", from_lzma_of_x86),
-    uuid.UUID("fc1bcdb0-7d31-49aa-936a-a4600d9dd083"): Way("CRC32", "crc32", from_crc32),
-    uuid.UUID("a31280ad-481e-41b6-95e8-127f4c984779"): Way("Tiano compression", "tiano", _tiano_only),
-    uuid.UUID("3d532050-5cda-4fd0-879e-0f7f630d5afb"): Way("Brotli", "brotli", from_brotli),
-}
-# The names of known GUIDs whose sections are not opened.
-OTHERS = {uuid.UUID("a7717414-c616-4977-9420-844712a735bf"): "signed by RSA 2048 and SHA-256"}
-
-
-def open_section(kind: int, header_length: int, body: bytes, budget: Budget) -> tuple[Way, bytes, list[str]]:
-    """Returns the way to open a section, its contents, and the reasons to doubt them. `header_length` is the length of
-    the section header, which the body does not include. Raises Closed if no way is known or the data are damaged, and
-    Full if the budget does not suffice."""
-    budget.open()
-    way, packed = _compression(body) if kind == COMPRESSION else _guided(header_length, body)
-    found = io.BytesIO()  # its bytes are not copied at the end
-    try:
-        for piece in way.unpack(packed, budget):
-            found.write(piece)
-            if found.tell() > budget.limits.section:
-                raise Closed(f"{way.name}: more than {budget.limits.section} bytes")
-            budget.check("bytes", found.tell())
-    except (Closed, Full, MemoryError):
-        budget.wasted += found.tell()
-        raise
-    budget.take("bytes", found.tell())
-    if kind == COMPRESSION and found.tell() != int.from_bytes(packed.header[:4], "little"):
-        packed.doubts.append("the contents have another length than the header says")
-    return way, found.getvalue(), packed.doubts
-
-
-def _compression(body: bytes) -> tuple[Way, Packed]:
-    """Returns the way and the data of a compression section."""
-    if len(body) < COMPRESSION_HEADER:
-        raise Closed("no compression header")
-    way = COMPRESSIONS.get(body[COMPRESSION_HEADER - 1])
-    if way is None:
-        raise Closed(f"compression of the unknown type {body[COMPRESSION_HEADER - 1]}")
-    return way, Packed(body[:COMPRESSION_HEADER], body[COMPRESSION_HEADER:], [])
-
-
-def _guided(header_length: int, body: bytes) -> tuple[Way, Packed]:
-    """Returns the way and the data of a GUID-defined section."""
-    if len(body) < GUID_HEADER:
-        raise Closed("no GUID-defined header")
-    guid = uuid.UUID(bytes_le=body[:16])
-    (data_offset,) = struct.unpack_from("<H", body, 16)  # counted from the first byte of the section
-    if not header_length + GUID_HEADER <= data_offset <= header_length + len(body):
-        raise Closed(f"DataOffset {data_offset}")
-    way = GUIDS.get(guid)
-    if way is None:
-        raise Closed(f"{OTHERS.get(guid, 'unknown GUID')} {guid}")
-    start = data_offset - header_length
-    return way, Packed(body[:start], body[start:], [])
+    budget.wasted -= length + BROTLI_PIECE
+    rest = len(data) - at
+    doubts = [] if is_erased(data, at, len(data)) else [f"{rest} bytes follow the packed data"]
+    return Unpacked(BY_BROTLI, found.getvalue(), doubts)
 
 
 def frames(data: bytes, start: int, end: int) -> Iterator[Frame]:

@@ -216,7 +216,7 @@ class Pages(MapCase):
         self.assertEqual(page.row_with("deleted file", "it was deleted")[2], "224 B")
         self.assertTrue(page.row_with("GUID-defined", "SECFV › Broken")[4].startswith("not opened: LZMA: "))
         store = bytes(16) + uuid.UUID("fff12b8d-7696-4c8b-a985-2747075b4f50").bytes_le + volume([], 1024)[32:]
-        summed = stream(making.guided(making.CRC32, bytes(4) + section(RAW, b"x")), ui("Summed"))
+        summed = stream(making.checked(section(RAW, b"x"), 1), ui("Summed"))
         files = [making.pad(b"held"), file(guid_of(42), summed, FREEFORM)]
         Path("unread.fd").write_bytes(making.flash(volume(files), store)[:-8] + b"trailing")
         page = self.page(1, "unread.fd")

@@ -6,11 +6,9 @@ import contextlib
 import hashlib
 import io
 import json
-import lzma
 import os
 import re
 import shutil
-import struct
 import unittest
 import uuid
 from collections import Counter
@@ -20,9 +18,7 @@ from pathlib import Path
 from fv import unpack
 from fv._parts import Digests
 from fv.images import Part
-from fv.limits import Budget, Full, Limits
-from fv.names import GUIDED
-from fv.opened import Closed, open_section
+from fv.limits import Full
 
 from tests import making
 from tests.checks import ROOT, read
@@ -50,6 +46,15 @@ def changed(at: int, new: bytes) -> bytes:
     return PAIR[:at] + new + PAIR[at + len(new) :]
 
 
+SIGNED = uuid.UUID("a7717414-c616-4977-9420-844712a735bf")
+# A section in LZMA data of CompressionType 2, without and with four bytes before the data, and one with a GUID that
+# needs no processing.
+TEXT, IN_LZMA = ui("Text"), compressed(ui("Text"))[24:]
+WAYS = (
+    making.compression(IN_LZMA, len(TEXT), 2),
+    making.compression(b"four" + IN_LZMA, len(TEXT), 2),
+    making.guided(UNKNOWN, TEXT, 0),
+)
 STORE = changed(16, uuid.UUID("fff12b8d-7696-4c8b-a985-2747075b4f50").bytes_le)
 # Images that are unpacked: the status of fv-unpack and of fv-sbom, the lines, the name or the bytes, and the numbers of
 # rows in the index and of other files.
@@ -60,9 +65,9 @@ UNPACKED: Table = (
          f"03-volume/001-{GUIDS[9]}/guid-defined.bin: not opened: unknown GUID {UNKNOWN}"], "firmware.fd", (43, 24)),
     # A volume in a volume, sections in each other, and data that are not LZMA.
     (1, [TWO, "01-volume: volume at 0x64: 1 files",
-         f"{OTHER}guid-defined.bin: not opened: LZMA: Input format not supported by decoder",
-         f"{OTHER}guid-defined-2.bin: not opened: LZMA: the data are cut short",
-         f"{OTHER}guid-defined-3.bin: not opened: no GUID-defined header"], "deep.fd", (15, 7)),
+         f"{OTHER}guid-defined.bin: not opened: LZMA: more than 268435456 bytes",
+         f"{OTHER}guid-defined-2.bin: not opened: LZMA: section fault 3 at 114: the packed data are damaged",
+         f"{OTHER}guid-defined-3.bin: not opened: section fault 1 at 11: the section is cut short"], "deep.fd", (15, 7)),
     (2, [f"00-volume: volume at 0x1000: {DAMAGED}", SMALL], "damaged.fd", (4, 2)),
     (0, [PLAIN], "plain.fv", (9, 5)),
     (0, ["00-volume: volume at 0x1000: 3 files, 2 of them fixed", SMALL], "fixed.fd", (12, 6)),
@@ -98,6 +103,9 @@ UNPACKED: Table = (
     # A section whose checksum is wrong, and bytes outside of volumes.
     (1, [TWO, f"{OTHER}crc32/: opened, but the CRC32 is wrong"],
      volume([A, file(guid(9), making.checked(section(RAW, b"data"), 1), FREEFORM)])),
+    (1, [TWO, f"{OTHER}signed/: opened, but the signature is not verified"],
+     volume([A, file(guid(9), making.guided(SIGNED, section(RAW, b"data"), 3, b"signature"), FREEFORM)])),
+    (0, [TWO], volume([A, file(guid(9), stream(*WAYS), FREEFORM)]), (11, 5)),
     (1, [TWO, GAP], PAIR + bytes(64) + b"text" + bytes(60)),
     (1, [TWO, LATER, GAP], PAIR + b"\x55" * 64 + PAIR),
     (0, [TWO, LATER], PAIR + bytes(64) + PAIR + b"\xff" * 64, (14, 8)),
@@ -161,7 +169,6 @@ BESIDE = ["ovmf/OVMF.fd", "OVMF/OVMF32_CODE_4M.secboot.fd", "OVMF/OVMF_CODE.secb
 REPORTED = re.compile(r" (File|Section) +\| (.{21}) \| .{8} \| (.{8}) \| .{8} \| -+ (\S+)")
 HEADERS = {"file": (24, 32), "section": (4, 8)}  # lengths of short and of long headers
 Found = tuple[str, str, int]  # the kind, the GUID and the size of a part
-PACKED_ZEROS = lzma.compress(bytes(5000), format=lzma.FORMAT_ALONE)
 GUIDED_BY_GENSEC = ("GenSec", "-s", "EFI_SECTION_GUID_DEFINED")
 
 
@@ -444,25 +451,7 @@ class Unpack(PartsCase):
 
 
 class Limited(unittest.TestCase):
-    """The opening of one section, and the limit for digests."""
-
-    def opened(self, header: int, offset: int, extra: int = 0, **limits: int) -> str:
-        """Returns how a section was opened whose LZMA data begin at an offset that counts from its header, or why
-        not."""
-        data = LZMA.bytes_le + struct.pack("<HH", offset, 1) + bytes(extra) + PACKED_ZEROS
-        try:
-            way, found, _ = open_section(GUIDED, header, data, Budget(Limits(**limits), 0))
-            return f"{way.name} {len(found)}"
-        except (Closed, Full) as reason:
-            return str(reason)
-
-    def test_sections(self) -> None:
-        found = [self.opened(4, 24), self.opened(8, 28), self.opened(4, 31, 7)]
-        self.assertEqual(found, ["LZMA 5000"] * 3)
-        found = [self.opened(4, 23), self.opened(4, 300), self.opened(4, 24, section=4999)]
-        self.assertEqual(found, ["DataOffset 23", "DataOffset 300", "LZMA: more than 4999 bytes"])
-        found = [self.opened(4, 24, total=4999), self.opened(4, 24, sections=0)]
-        self.assertEqual(found, ["4999 bytes", "0 sections"])
+    """The limit for digests."""
 
     def test_digests(self) -> None:
         digests, part = Digests(25), Part(bytes(100), 10, 10)

@@ -1,6 +1,6 @@
 # SPDX-License-Identifier: BSD-2-Clause-Patent
 """Makes the inputs of fuzz.py and tools.py by their numbers: what makers write, and the same with changed bytes. Flash
-images and hand-off lists have the lines that `scan` and `hobs` write of them."""
+images and hand-off lists have the lines that `scan` and `hobs` write of them. Packed sections have no lines."""
 
 import random
 import struct
@@ -8,6 +8,7 @@ from collections.abc import Iterable, Sequence
 from dataclasses import dataclass, replace
 
 from tests.fuzz.maker import Maker, Span
+from tests.fuzz.packer import some_section
 from tests.making import covered, data_sum, sum8, sum16
 
 VOLUME_BLOCKS = (0x5, 0x9)  # types of blocks that name a volume
@@ -204,8 +205,10 @@ def make_case(seed: int, index: int) -> Case:
     if kind < 0.86:
         image = ListMaker(name).image()
         case = Case("image", image.data, [f"volume at {it.offset} length {it.length}" for it in image.places])
-    else:
+    elif kind < 0.96:
         case = ListMaker(name, slips=pick.choice((0, 0, 1, 2))).hand_off()
+    else:
+        case = Case("section", some_section(pick).data + pick.randbytes(pick.choice((0, 0, 1, 9))))
     if pick.random() < (0.3 if case.kind == "image" else 0.2):
         case = replace(case, data=broken(pick, case.data), lines=None)
     return case

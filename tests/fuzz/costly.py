@@ -55,6 +55,11 @@ def squeezed(contents: bytes) -> bytes:
     return holder(packed(packed(contents)))
 
 
+def cut(size: int) -> bytes:
+    """Returns a section of LZMA data that are cut short before they have given this many zeros."""
+    return guided(making.LZMA, packed(bytes(size))[24:-8])
+
+
 def nested(levels: int, data: bytes, wrap: Callable[[bytes], bytes]) -> bytes:
     """Returns data that are wrapped this many times."""
     return reduce(lambda inner, _: wrap(inner), range(levels), data)
@@ -248,7 +253,7 @@ SECTIONS: Inputs = {
     "short_expressions": many(section(DXE_DEPEX, b"\x06\x08")),
     "unknown_packed": many(guided(making.UNKNOWN, b"")),
     # LZMA sections that are cut short, each after 1 MiB or more
-    "broken_packed": lambda size, parts: repeated(packed(bytes(size // 64 + MIB))[:-6], size, min(parts, 2000)),
+    "broken_packed": lambda size, parts: repeated(cut(size // 64 + MIB), size, min(parts, 2000)),
     "empty_packed": many(packed(b"")),
     # CRC-32 sections with wrong sums, and compression sections that do not compress, in one another or side by side
     "checked": lambda size, _: nested(7, bytes(max(size // 9, 4)), summed),
@@ -274,7 +279,62 @@ PACKED: Inputs = {
     "tried": lambda _, parts: holder(*[packed(packed(in_section(holder(EMPTY * parts + WRONG))))] * 20),
     "brotli": by_brotli,
     "many_zeros": lambda size, _: holder(*[packed(packed(bytes(size)))] * 8),
-    "cut_zeros": lambda size, _: holder(*[packed(packed(bytes(size))[:-8])] * 60),
+    "cut_zeros": lambda size, _: holder(*[packed(cut(size))] * 60),
+    # Sections of types 1 and 2 that libfv decodes in two ways before it rejects them: with the length of their
+    # contents, and with another one
+    "many_bytes": lambda size, _: holder(*[compression(no_bits(size // 4, 4, False), size // 4, 1)] * 60),
+    "cut_customized": lambda size, _: holder(*[compression(packed(bytes(size))[24:-8], size, 2)] * 60),
+    "lying_customized": lambda size, _: holder(*[compression(packed(bytes(size))[24:-8], 1 << 31, 2)] * 60),
+}
+# The most bytes that `open` writes
+MOST_OPENED = 256 * MIB
+
+
+def stream_of(data: bytes, length: int | None = None) -> bytes:
+    """Returns an LZMA stream with an end marker, or with a length in place of it."""
+    stream = lzma.compress(data, format=lzma.FORMAT_ALONE, filters=QUICK)
+    return stream if length is None else stream[:5] + length.to_bytes(8, "little") + stream[13:]
+
+
+def lzma_of(data: bytes, length: int | None = None) -> bytes:
+    """Returns a section with such a stream."""
+    return guided(making.LZMA, stream_of(data, length))
+
+
+def many_codes(size: int, width: int) -> bytes:
+    """Returns compressed data of blocks that have one byte each, and whose codes have as many lengths as possible: 510
+    for bytes and matches, and all that the width has for distances."""
+    # The symbols 10 and 11 of the extra set, the lengths 8 and 9, have codes of one bit.
+    extra = "01100" + "000" * 3 + "00" + "000" * 7 + "001" * 2
+    main = f"{510:09b}" + "1" * 508 + "0" * 2
+    distances = f"{8:0{width}b}" + "011" * 8
+    block = f"{1:016b}" + extra + main + distances + f"{4:09b}"
+    count = 8 * size // len(block)
+    return making.with_lengths(block * count, count)
+
+
+# Packed sections for `open`, with about as many bytes, or with contents that are as long as `open` writes them, or longer
+OPENED: Inputs = {
+    "lzma_noise": lambda size, _: lzma_of(making.noise("costly", size), size),
+    "lzma_zeros": lambda *_: lzma_of(bytes(MOST_OPENED), MOST_OPENED),
+    "lzma_marked_zeros": lambda *_: lzma_of(bytes(MOST_OPENED)),
+    # Contents that are a byte too long: by the header, and by the end marker
+    "lzma_bomb": lambda *_: lzma_of(bytes(MOST_OPENED + 1), MOST_OPENED + 1),
+    "lzma_marked_bomb": lambda *_: lzma_of(bytes(MOST_OPENED + 1)),
+    # A header that promises as much as `open` writes, and a stream that is cut off
+    "lzma_promise": lambda *_: guided(making.LZMA, stream_of(bytes(8), MOST_OPENED)[:18]),
+    # All chances that a stream can have: lc 8 and lp 4
+    "lzma_chances": lambda *_: guided(making.LZMA, b"\xe0" + stream_of(b"", 0)[1:]),
+    # Streams that are cut off at their end, which are tried once more after their first four bytes
+    "lzma_tried_twice": lambda *_: compression(stream_of(bytes(MOST_OPENED), MOST_OPENED)[:-1], 0, 2),
+    "lzma_code": lambda *_: guided(making.LZMA_X86, stream_of(b"\xe8\0\0\0\0" * (MOST_OPENED // 5))),
+    "tiano_bytes": lambda *_: guided(making.TIANO, no_bits(MOST_OPENED, 5, False)),
+    "tiano_matches": lambda *_: guided(making.TIANO, no_bits(MOST_OPENED, 5, True)),
+    "tiano_bomb": lambda *_: guided(making.TIANO, no_bits(MOST_OPENED + 1, 5, True)),
+    "tiano_codes": lambda size, _: guided(making.TIANO, many_codes(size, 5)),
+    # Data that are no sections when they are decoded in the form of the UEFI specification, so that Tiano's is tried
+    "uefi_tried": lambda *_: compression(no_bits(MOST_OPENED, 4, True), 0, 1),
+    "checked_zeros": lambda size, _: making.checked(bytes(size)),
 }
 # The memory that a run of the program may take, as a multiple of its input. For the other inputs this multiple is 2.
 RATIOS = {"stubs": 5, "pads": 4, "names": 5, "replaced_names": 4, "small_volumes": 5}

@@ -11,6 +11,9 @@
                         traceback and no status 4. With --brief the small bombs hold a twentieth, the large ones are
                         left out, and a run may take 3 seconds. LIBFV names the library, which is libfv/out/libfv.so.2
                         if nothing is named.
+    costs open          The program's `open`, over packed sections of 16 MiB that are meant to be costly, and over
+                        sections of any size with contents of 256 MiB, which is the most that it writes, or a byte
+                        more. A run may take 5 seconds, and the memory of the input, of these contents, and 64 MiB.
     costs speed         The program beside cat, cmp and sha256sum, over three volumes that are made, without limits: the
                         least time of the runs. Volumes that are given are also measured beside VolInfo and UEFIExtract,
                         if these are installed.
@@ -40,7 +43,7 @@ from typing import IO, Any
 import fv
 from tests.checks import ROOT
 from tests.frame import LIBRARY, PROGRAM
-from tests.fuzz.costly import ALL, BOTH, FOR_PACKAGE, FOR_PROGRAM, MIB, PACKED, RATIOS, SECTIONS
+from tests.fuzz.costly import ALL, BOTH, FOR_PACKAGE, FOR_PROGRAM, MIB, MOST_OPENED, OPENED, PACKED, RATIOS, SECTIONS
 from tests.fuzz.costly import Inputs, alike, flipped, holder, named, squeezed, volume
 from tests.making import RAW_FILE
 
@@ -58,6 +61,7 @@ COMMANDS = {
         *("fv-text --open IMAGE", "fv-same IMAGE OTHER", "fv-same --open IMAGE OTHER", "fv-check IMAGE"),
         *("fv tree IMAGE", "fv digests IMAGE"),
     ),
+    "open": ("fvtool open IMAGE",),
     "speed": (
         *("cat IMAGE", "cmp IMAGE COPY", "sha256sum IMAGE", "fvtool scan IMAGE", "fvtool list IMAGE"),
         *("fvtool cells IMAGE", "fvtool check IMAGE", "fvtool normalise IMAGE", "fvtool list --sums IMAGE"),
@@ -125,6 +129,8 @@ class Input:
         """Returns the limits of a command over the input, which has this length."""
         if what == "speed":
             return Most(math.inf, math.inf)
+        if what == "open":
+            return Most(self.seconds, length + MOST_OPENED + 64 * MIB)
         if what == "package":
             return Most(self.seconds, 4 << 30, 300_000_000 + ("FOLDER" in command) * (HELD + 32 * length))
         seconds = self.seconds * (20 / 3 if "--sums" in command else 1)
@@ -173,6 +179,7 @@ def inputs(given: argparse.Namespace) -> Iterator[Input]:
     # Each table of inputs, with the shape, the start of the names, the size, the number of parts, and the seconds.
     tables: dict[str, list[tuple[Inputs, Shape, tuple[str, int, int, float]]]] = {
         "program": [(BOTH | FOR_PROGRAM, bytes, ("", size, ALL, 3 * max(given.mib / 16, 1)))],
+        "open": [(OPENED, bytes, ("", size, ALL, 5))],
         "speed": [(files or PLAIN, bytes, ("", size, ALL, math.inf))],
         "package": [
             (SECTIONS | BOTH | FOR_PACKAGE, squeezed, small),
@@ -240,7 +247,7 @@ def measure_library(runs: int) -> None:
 
 def arguments() -> argparse.Namespace:
     """Reads the arguments. The help lists the inputs."""
-    listed = ", ".join(BOTH | FOR_PROGRAM | FOR_PACKAGE | SECTIONS | PACKED)
+    listed = ", ".join(BOTH | FOR_PROGRAM | FOR_PACKAGE | SECTIONS | PACKED | OPENED)
     shape = argparse.RawDescriptionHelpFormatter
     reader = argparse.ArgumentParser(description=__doc__, epilog=f"inputs: {listed}", formatter_class=shape)
     reader.add_argument("what", choices=COMMANDS, help="what is measured")
@@ -249,7 +256,7 @@ def arguments() -> argparse.Namespace:
     reader.add_argument("--command", metavar="WORD", action="append", help="commands with this word")
     reader.add_argument("--jobs", type=int, help="runs at the same time; by default all processors run the package")
     reader.add_argument("--write", metavar="FOLDER", type=Path, help="write the inputs, and run nothing")
-    reader.add_argument("--mib", type=int, default=16, help="program, speed: about how large inputs are, at most 256")
+    reader.add_argument("--mib", type=int, default=16, help="program, open, speed: about how large inputs are, at most 256")
     reader.add_argument("--brief", action="store_true", help="package: small bombs that hold less")
     reader.add_argument("--runs", type=int, default=20, help="speed, library: how many runs of each command or call")
     given = reader.parse_args()

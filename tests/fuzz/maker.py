@@ -10,6 +10,7 @@ from collections.abc import Callable, Iterable
 from dataclasses import dataclass, field
 
 from tests import making
+from tests.fuzz.packer import some_section
 from tests.making import CONSTRUCTION, DELETED, DXE_DEPEX, FFS2, FFS3, FIXED, GROUP, HEADER_INVALID, HEADER_VALID, LARGE
 from tests.making import MARKED, MM_DEPEX, MOST_SHORT, PAD_FILE, PEI_DEPEX, RAW_FILE, SECOND_TABLE, SECURITY_CORE
 from tests.making import SUBTYPE, SUMMED, UI, VALID, VERSION, VOLUME, Header, data_sum
@@ -223,11 +224,18 @@ class Maker:
         data = making.section_head(kind, size, is_extended) + inner.data
         return Part(data, [about + leaf_note(kind, inner.data), *indented(inner.lines)])
 
+    def packed_section(self, number: int) -> Part:
+        """Returns a compression section or a GUID-defined section, which `list` shows as a leaf."""
+        data = some_section(self.pick).data
+        head, form = (8, "extended") if data.startswith(b"\xff\xff\xff") else (4, "short")
+        return Part(data, [f"section {number} type {data[3]:02x} {form} body {len(data) - head}"])
+
     def stream(self, depth: int) -> Part:
         """Returns the sections of a file or a group."""
         data, lines = b"", list[str]()
         for number in range(max(self.few(4), depth < self.chain)):
-            part = self.section(number, depth)
+            is_packed = depth >= self.chain and self.happens(0.08)
+            part = self.packed_section(number) if is_packed else self.section(number, depth)
             data += self.filler(-len(data) % 4, 0) + part.data
             lines += part.lines
         if data:

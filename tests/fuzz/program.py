@@ -14,10 +14,15 @@ from typing import TypeVar
 T = TypeVar("T")
 # The exit status of a run, and its output.
 Answer = tuple[int, bytes]
-REFUSALS = {"compare": rb"(?:first|second) fault (\d+) at (\d+)\n", "hobs": rb"hob fault (\d+) at (\d+)\n"}
-LAST_FAULT, LAST_HOB_FAULT = 23, 5  # of a volume that is read with enough memory, and of a hand-off list
-MAY_END_WITH_1 = ("compare", "check", "extract")
-WRITES_BYTES = ("normalise", "unfix", "extract")
+REFUSALS = {
+    "compare": rb"(?:first|second) fault (\d+) at (\d+)\n",
+    "hobs": rb"hob fault (\d+) at (\d+)\n",
+    "open": rb"(?:section )?fault (\d+) at (\d+)\n",
+}
+# The last fault of a volume that is read with enough memory, of a hand-off list, and of a packed section
+LAST_FAULT, LAST_HOB_FAULT, LAST_OPEN_FAULT = 23, 5, 5
+MAY_END_WITH_1 = ("compare", "check", "extract", "open")
+WRITES_BYTES = ("normalise", "unfix", "extract", "open")
 DIGITS = re.compile(rb"(?:[0-9a-f]{64}\n)*(?:(?:[0-9a-f]{2}){1,32}\n)?")
 NONE: dict[str, str] = {}  # the environment of a run
 
@@ -110,6 +115,7 @@ class Program:
             form = REFUSALS.get(name, rb"fault (\d+) at (\d+)\n")
             number, offset = map(int, require(re.fullmatch(form, out), f"{command}: another refusal", out).groups())
             last = LAST_HOB_FAULT if name == "hobs" else LAST_FAULT
+            last = LAST_OPEN_FAULT if out.startswith(b"section") else last
             require(1 <= number <= last, f"{command}: a fault out of place", out)
             require(offset <= max(map(len, inputs)), f"{command}: a fault past the input", out)
         if self.pick.randrange(10) == 0:

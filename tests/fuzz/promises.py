@@ -5,12 +5,15 @@ one another, and with the second reader. README.md lists the promises."""
 import hashlib
 import re
 import uuid
-from collections.abc import Callable
+from collections.abc import Callable, Iterator
 
 from tests import second_reader
 from tests.fuzz.cases import Case
 from tests.fuzz.program import Answer, Program, fault, joined, line, require
-from tests.making import FIXED
+from tests.making import COMPRESSION, FIXED, GUIDED
+from tests.packed_reader import sections
+from tests.packed_reader.faults import Fault
+from tests.second_reader import Section, Stream, Volume
 
 # A check of an accepted volume and its canonical image.
 Check = Callable[[Program, Case, bytes], None]
@@ -102,8 +105,51 @@ def check_sums(program: Program, case: Case, image: bytes) -> None:
     program.expect((1, b"not found\n"), f"extract --name {uuid.UUID(bytes=program.pick.randbytes(16))}", image)
 
 
+def sections_in(part: Volume | Stream | None, path: str = "") -> Iterator[tuple[str, Section]]:
+    """Yields the sections of a volume or a stream, each with the path that `open` takes."""
+    if isinstance(part, Volume):
+        for number, file in enumerate(part.files):
+            yield from sections_in(file.stream, f"{path}{number}.")
+    elif part:
+        for number, section in enumerate(part.sections):
+            yield f"{path}{number}", section
+            yield from sections_in(section.content, f"{path}{number}.")
+
+
+def expect_opened(program: Program, section: bytes, command: str, data: bytes) -> str:
+    """Checks that a command opens a packed section of the data as the reader of packed sections does, which does not
+    know the offset of some faults. Returns the outcome."""
+    found = program.ask(command, data)
+    try:
+        wanted = 0, sections.opened(section).contents
+    except Fault as it:
+        offset = int(found[1].split()[-1]) if it.offset is None and found[0] == 2 else it.offset
+        wanted = fault(it.kind.value, offset or 0, "section ")
+    require(found == wanted, f"{command}: another answer", found, wanted)
+    return "opened" if wanted[0] == 0 else f"section refused {wanted[1].split()[2].decode()}"
+
+
+def check_opened(program: Program, case: Case, _image: bytes) -> None:
+    """Checks that `open` finds sections of the volume by their paths, and opens the packed ones."""
+    volume = second_reader.read_volume(case.data)
+    listed = list(sections_in(volume))
+    for missing in (f"{len(volume.files)}.0", *(f"{path}.0" for path, it in listed[-1:] if it.content is None)):
+        program.expect((1, b"not found\n"), f"open --section {missing}", case.data)
+    packed = [it for it in listed if it[1].type in (COMPRESSION, GUIDED)]
+    for path, section in program.pick.sample(packed, min(len(packed), 2)):
+        start = section.body.start - (8 if section.extended else 4)
+        data, front = case.data[start : section.body.end], program.pick.randbytes(program.pick.randrange(40))
+        expect_opened(program, data, f"open --section {path}", case.data)
+        expect_opened(program, data, f"open --at {start}", case.data)
+        expect_opened(program, data, f"open --section {path} --at {len(front)}", front + case.data)
+    others = [path for path, section in listed if section.type not in (COMPRESSION, GUIDED)]
+    for path in program.pick.sample(others, min(len(others), 1)):
+        program.expect((1, b"not packed\n"), f"open --section {path}", case.data)
+
+
 # The further checks of an accepted volume.
 WAYS: list[Check] = [check_own, check_listed, check_length, check_placed, check_cells, check_unfixed, check_sums]
+WAYS.append(check_opened)
 
 
 def check_accepted(program: Program, case: Case, image: bytes) -> None:
@@ -197,4 +243,12 @@ def check_list(program: Program, case: Case) -> str:
     return "list accepted"
 
 
+def check_section(program: Program, case: Case) -> str:
+    """Checks that `open` opens a packed section anywhere in the input. Returns the outcome."""
+    front = program.pick.randbytes(program.pick.randrange(40))
+    expect_opened(program, case.data, f"open --at {len(front)}", front + case.data)
+    return expect_opened(program, case.data, "open", case.data)
+
+
 CHECKS: dict[str, Callable[[Program, Case], str]] = {"volume": check_volume, "image": check_image, "list": check_list}
+CHECKS["section"] = check_section

@@ -3,8 +3,9 @@
 what fv-unpack, fv-same, fv-text, fv-map and fv-sbom show of an image. These readers are not proved, so an input may
 find defects that no other tool finds.
 
-An input is a volume or a flash image, which may be packed into sections of a volume, up to three times: LZMA, Brotli,
-CRC32, stored or of an unknown GUID. Of the packed data, some are changed. For each input the script checks that
+An input is a volume or a flash image, which may be packed into sections of a volume, up to three times: LZMA in each
+of its sections, the compression of the UEFI specification, CRC32, signed, stored or of an unknown GUID. Of the packed
+data, some are changed. For each input the script checks that
 
 - no reader raises an exception, except `Full`, and none takes more than SECONDS;
 - the volumes and the bytes beside them are the image, and each part lies in the part that holds it;
@@ -26,6 +27,7 @@ import time
 import traceback
 import uuid
 from collections.abc import Callable, Iterable, Iterator
+from functools import partial
 from pathlib import Path
 
 import fv
@@ -41,15 +43,21 @@ from tests.fuzz.fuzz import KEPT, write_case
 from tests.fuzz.program import require
 
 SECONDS = 20
-LIMITS = Limits(total=1 << 26, section=1 << 24, slow=1 << 16)
+LIMITS = Limits(total=1 << 26, section=1 << 24)
 NAMES = Names()
+SIGNED = uuid.UUID("a7717414-c616-4977-9420-844712a735bf")
 WAYS: list[Callable[[bytes], bytes]] = [
     making.compressed,
     making.compressed_code,
     making.compression,
     lambda data: making.compression(making.packed_by_tiano(data[:4096], 4), len(data), 1),
-    lambda data: making.guided(making.CRC32, bytes(4) + data),
-    lambda data: making.guided(uuid.UUID(int=7), data),
+    making.checked,
+    partial(making.checked, change=1),
+    lambda data: making.compression(making.compressed(data)[24:], len(data), 2),
+    lambda data: making.compression(b"four" + making.compressed(data)[24:], len(data), 2),
+    lambda data: making.compression(making.compressed_code(data)[24:], len(data), 0x86),
+    lambda data: making.guided(SIGNED, data, 3, b"signature"),
+    *(partial(making.guided, uuid.UUID(int=7), attributes=it) for it in range(4)),
     lambda data: making.section(making.VOLUME, data),
     lambda data: making.section(making.GUIDED, data),
     lambda data: making.stream(making.ui("Name"), making.section(making.RAW, data)),

@@ -137,13 +137,13 @@ static void try_each_argument(const struct call *call)
     fv_result usual = accept(call, call->all, "as usual", call->all);
     EXPECT(usual == FV_OK);
     for (EACH_ARGUMENT(i, call)) {
-        if (call->all[i].kind == NUMBER) continue;
+        if (!is_pointer(call->all + i)) continue;
 #define AFRESH(test) (memcpy(all, call->all, sizeof all), test)
         AFRESH(try_null(call, all, i, usual));
         if (has_size(all + i)) AFRESH(try_sizes(call, all, i));
         AFRESH(try_misaligned(call, all, i));
         for (EACH_ARGUMENT(j, call))
-            if (i != j && call->all[j].kind != NUMBER) AFRESH(try_over(call, all, i, call->all + j));
+            if (i != j && is_pointer(call->all + j)) AFRESH(try_over(call, all, i, call->all + j));
     }
 }
 
@@ -160,7 +160,7 @@ static void try_in_pages(const struct call *call, bool at_end)
     fv_result usual = accept(call, call->all, "beside a page", call->all);
     memcpy(all, call->all, sizeof all);
     for (EACH_ARGUMENT(i, call)) {
-        if (all[i].kind == NUMBER) continue;
+        if (!is_pointer(all + i)) continue;
         size_t size = all[i].count * all[i].size;
         pages[i] = mmap(NULL, 3 * PAGE, PROT_NONE, MAP_PRIVATE | MAP_ANONYMOUS, -1, 0);
         if (pages[i] == MAP_FAILED || mprotect(pages[i] + PAGE, PAGE, PROT_READ | PROT_WRITE)) exit(3);
@@ -174,7 +174,7 @@ static void try_in_pages(const struct call *call, bool at_end)
     }
     EXPECT(call->make(all) == usual);
     for (EACH_ARGUMENT(i, call)) {
-        if (all[i].kind == NUMBER) continue;
+        if (!is_pointer(all + i)) continue;
         size_t size = all[i].count * all[i].size;
         EXPECT(!memcmp(all[i].at, call->all[i].at, size));
         if (is_result(all + i)) EXPECT(is_full(at_end ? pages[i] + PAGE : (uint8_t *)all[i].at + size, PAGE - size));
@@ -216,6 +216,27 @@ static void try_phases(void)
     EXPECT(value == FV_DEPEX_FALSE && fault->result == 0);
 }
 
+/* Checks that each call with flags refuses flags that do not exist, and
+ * accepts none. */
+static void try_flags(void)
+{
+    for (EACH_CALL(call)) {
+        struct argument all[MOST];
+        memcpy(all, call->all, sizeof all);
+        for (EACH_ARGUMENT(i, call)) {
+            if (all[i].kind != FLAGS) continue;
+            for (uint32_t flag = 2; flag; flag <<= 1) {
+                all[i].count = flag;
+                refuse(call, all, "unknown", all + i);
+                all[i].count = flag | FV_WITHOUT_MARKS;
+                refuse(call, all, "unknown and known", all + i);
+            }
+            all[i].count = 0;
+            EXPECT(accept(call, all, "none", all + i) == FV_OK);
+        }
+    }
+}
+
 /* Checks what each call does without an input, without a buffer, and with NULL
  * for both. */
 static void try_nothing(void)
@@ -228,7 +249,8 @@ static void try_nothing(void)
         fv_result result = accept(call, all, "and all others, NULL and empty", all);
         EXPECT(result == call->of_nothing);
         if (result != FV_OK) EXPECT(is_full(count, sizeof count) && is_full(length, sizeof length));
-        if (result == FV_OK && call->all[2].at == count) EXPECT(*count == 0);
+        for (EACH_ARGUMENT(i, call))
+            if (result == FV_OK && all[i].at == count) EXPECT(*count == 0);
         if (result && result < FV_BUFFER_TOO_SMALL) EXPECT(fault->result == result && !fault->offset && !fault->input);
     }
     strcpy(trying, "the second of two volumes is empty");
@@ -264,6 +286,7 @@ int main(void)
     }
     try_neighbours();
     try_phases();
+    try_flags();
     try_nothing();
     try_large_image();
     printf("arguments: %lu calls are refused and %lu accepted, as they should be\n", refused, accepted);

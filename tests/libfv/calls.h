@@ -19,7 +19,7 @@ static char trying[200] = "";
         }                                                                                                              \
     } while (0)
 
-enum { MOST = 6, ROOM = 8, FILE_AT = 72, DATA_AT = 96, DATA_LEN = 44, LENGTH = 160, FILLED = 0xee };
+enum { MOST = 7, ROOM = 8, FILE_AT = 72, DATA_AT = 96, DATA_LEN = 44, LENGTH = 160, FILLED = 0xee };
 
 /* The bytes of a volume with one file and 16 free bytes. The file has type 02, attribute 40 and these sections:
  *   0: type 14 with an extended header and 6 bytes
@@ -99,9 +99,9 @@ static fv_guid guid[2];
 static size_t count[2], length[2];
 static uint32_t number[2];
 
-/* An argument: an input or a buffer with a size of its own, one const object, a result, the fault, or a number, which
- * has no pointer. A pointer has a target with `count` elements of this size and alignment. */
-enum kind { NO_MORE, INPUT, BUFFER, OBJECT, RESULT, FAULT, NUMBER };
+/* An argument: an input or a buffer with a size of its own, one const object, a result, the fault, or a number or flags,
+ * which have no pointer. A pointer has a target with `count` elements of this size and alignment. */
+enum kind { NO_MORE, INPUT, BUFFER, OBJECT, RESULT, FAULT, NUMBER, FLAGS };
 struct argument {
     enum kind kind;
     const char *name;
@@ -134,11 +134,14 @@ MAKES(volume_cells, P(0), N(0), P(1), N(1), P(2), P(3))
 MAKES(volume_tree, P(0), N(0), P(1), N(1), P(2), P(3))
 MAKES(volume_tree_digests, P(0), N(0), P(1), N(1), P(2), P(3))
 MAKES(volume_extract, P(0), N(0), N(1), P(2), N(2), P(3), P(4))
+MAKES(volume_tree_with, P(0), N(0), (uint32_t)N(1), P(2), N(2), P(3), P(4))
+MAKES(volume_tree_digests_with, P(0), N(0), (uint32_t)N(1), P(2), N(2), P(3), P(4))
+MAKES(volume_extract_with, P(0), N(0), (uint32_t)N(1), N(2), P(3), N(3), P(4), P(5))
 MAKES(section_way, P(0), N(0), P(1), P(2))
 MAKES(section_open, P(0), N(0), N(1), P(2), N(2), P(3), P(4))
-MAKES(sections_tree, P(0), N(0), P(1), N(1), P(2), P(3))
-MAKES(sections_tree_digests, P(0), N(0), P(1), N(1), P(2), P(3))
-MAKES(sections_extract, P(0), N(0), N(1), P(2), N(2), P(3), P(4))
+MAKES(sections_tree, P(0), N(0), (uint32_t)N(1), P(2), N(2), P(3), P(4))
+MAKES(sections_tree_digests, P(0), N(0), (uint32_t)N(1), P(2), N(2), P(3), P(4))
+MAKES(sections_extract, P(0), N(0), (uint32_t)N(1), N(2), P(3), N(3), P(4), P(5))
 MAKES(depex_evaluate, P(0), N(0), (uint32_t)N(1), P(2), N(2), P(3), P(4))
 MAKES(hobs_read, P(0), N(0), P(1), N(1), P(2), P(3), P(4))
 MAKES(guid_text, P(0), P(1), N(1))
@@ -147,6 +150,7 @@ MAKES(guid_parse, P(0), N(0), P(1))
 #define BYTES(kind, of, count) {kind, #of, of, count, 1, 1}
 #define ELEMENTS(kind, of, count) {kind, #of, of, count, sizeof *of, _Alignof(__typeof__(*of))}
 #define VALUE(of) {NUMBER, #of, NULL, of, 0, 1}
+#define UNMARKED {FLAGS, "flags", NULL, FV_WITHOUT_MARKS, 0, 1}
 #define IN(of) BYTES(INPUT, of, sizeof of)
 #define OUT(of) BYTES(BUFFER, buffer.of, sizeof buffer.of)
 #define ROWS(of) ELEMENTS(BUFFER, buffer.of, ROOM)
@@ -168,11 +172,14 @@ static const struct call calls[] = {
     CALL(volume_tree, FAULT_TRUNCATED, IN(volume), ROWS(nodes), ONE(count), ITS_FAULT),
     CALL(volume_tree_digests, FAULT_TRUNCATED, IN(volume), ROWS(digests), ONE(count), ITS_FAULT),
     CALL(volume_extract, FAULT_TRUNCATED, IN(volume), VALUE(1), OUT(bytes), ONE(length), ITS_FAULT),
+    CALL(volume_tree_with, FAULT_TRUNCATED, IN(volume), UNMARKED, ROWS(nodes), ONE(count), ITS_FAULT),
+    CALL(volume_tree_digests_with, FAULT_TRUNCATED, IN(volume), UNMARKED, ROWS(digests), ONE(count), ITS_FAULT),
+    CALL(volume_extract_with, FAULT_TRUNCATED, IN(volume), UNMARKED, VALUE(1), OUT(bytes), ONE(length), ITS_FAULT),
     CALL(section_way, FAULT_OPEN_SHORT, IN(packed), ONE(way), ITS_FAULT),
     CALL(section_open, FAULT_OPEN_SHORT, IN(packed), VALUE(100), OUT(bytes), ONE(contents), ITS_FAULT),
-    CALL(sections_tree, OK, IN(stream), ROWS(nodes), ONE(count), ITS_FAULT),
-    CALL(sections_tree_digests, OK, IN(stream), ROWS(digests), ONE(count), ITS_FAULT),
-    CALL(sections_extract, NOT_FOUND, IN(stream), VALUE(1), OUT(bytes), ONE(length), ITS_FAULT),
+    CALL(sections_tree, OK, IN(stream), UNMARKED, ROWS(nodes), ONE(count), ITS_FAULT),
+    CALL(sections_tree_digests, OK, IN(stream), UNMARKED, ROWS(digests), ONE(count), ITS_FAULT),
+    CALL(sections_extract, NOT_FOUND, IN(stream), UNMARKED, VALUE(1), OUT(bytes), ONE(length), ITS_FAULT),
     CALL(depex_evaluate, FAULT_DEPEX_NO_END, IN(expression), VALUE(FV_PHASE_DXE), ELEMENTS(INPUT, guid, 1), ONE(number),
          ITS_FAULT),
     CALL(hobs_read, FAULT_HOB_NO_END, IN(list), ROWS(hobs), ONE(count), ONE(length), ITS_FAULT),
@@ -184,8 +191,13 @@ enum { CALLS = sizeof calls / sizeof *calls };
 #define EACH_CALL(call) const struct call *call = calls; call < calls + CALLS; call++
 #define EACH_ARGUMENT(i, call) int i = 0; i < MOST && (call)->all[i].kind; i++
 
-/* Returns whether an argument is a pointer with a size of its own, so that it may be empty; and whether the call writes
- * to it. */
+/* Returns whether an argument is a pointer; whether it is one with a size of its own, so that it may be empty; and whether
+ * the call writes to it. */
+static inline bool is_pointer(const struct argument *it)
+{
+    return it->kind != NUMBER && it->kind != FLAGS;
+}
+
 static inline bool has_size(const struct argument *it)
 {
     return it->kind == INPUT || it->kind == BUFFER;

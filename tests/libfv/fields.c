@@ -57,7 +57,7 @@ static void try_stream(void)
 {
     make_both();
     begin("the rows of a stream");
-    EXPECT(fv_sections_tree(stream, DATA_LEN, buffer.nodes, 5, count, fault) == FV_OK && *count == 5);
+    EXPECT(fv_sections_tree(stream, DATA_LEN, 0, buffer.nodes, 5, count, fault) == FV_OK && *count == 5);
     for (int i = 0; i < 5; i++) {
         fv_node wanted = nodes[i + 2];
         wanted.offset -= DATA_AT;
@@ -66,25 +66,45 @@ static void try_stream(void)
         EXPECT(!memcmp(buffer.nodes + i, &wanted, sizeof wanted));
     }
     begin("the digests of a stream");
-    EXPECT(fv_sections_tree_digests(stream, DATA_LEN, buffer.digests, 5, count, fault) == FV_OK && *count == 5);
+    EXPECT(fv_sections_tree_digests(stream, DATA_LEN, 0, buffer.digests, 5, count, fault) == FV_OK && *count == 5);
     for (int i = 0; i < 5; i++) EXPECT(!memcmp(buffer.digests[i].bytes, digests[i + 2], sizeof digests[i + 2]));
     begin("the parts of a stream");
     for (size_t i = 0; i < 5; i++) {
-        EXPECT(fv_sections_extract(stream, DATA_LEN, i, buffer.bytes, DATA_LEN, length, fault) == FV_OK);
+        EXPECT(fv_sections_extract(stream, DATA_LEN, 0, i, buffer.bytes, DATA_LEN, length, fault) == FV_OK);
         EXPECT(*length == nodes[i + 2].length && !memcmp(buffer.bytes, volume + nodes[i + 2].offset, *length));
     }
-    EXPECT(fv_sections_extract(stream, DATA_LEN, 5, buffer.bytes, DATA_LEN, length, fault) == FV_NOT_FOUND);
+    EXPECT(fv_sections_extract(stream, DATA_LEN, 0, 5, buffer.bytes, DATA_LEN, length, fault) == FV_NOT_FOUND);
     begin("an empty stream");
-    EXPECT(fv_sections_tree(NULL, 0, NULL, 0, count, fault) == FV_OK && *count == 0);
+    EXPECT(fv_sections_tree(NULL, 0, 0, NULL, 0, count, fault) == FV_OK && *count == 0);
     begin("a stream whose group has a section that does not fit");
     stream[20] = 40;
     const fv_fault wanted = {20, FV_FAULT_SECTION_SIZE, 1, 0, 0};
-    EXPECT(fv_sections_tree(stream, DATA_LEN, buffer.nodes, 5, count, fault) == FV_FAULT_SECTION_SIZE);
+    EXPECT(fv_sections_tree(stream, DATA_LEN, 0, buffer.nodes, 5, count, fault) == FV_FAULT_SECTION_SIZE);
     EXPECT(!memcmp(fault, &wanted, sizeof wanted) && *count == 9 && buffer.bytes[0] == FILLED);
-    EXPECT(fv_sections_tree_digests(stream, DATA_LEN, buffer.digests, 5, count, fault) == FV_FAULT_SECTION_SIZE);
+    EXPECT(fv_sections_tree_digests(stream, DATA_LEN, 0, buffer.digests, 5, count, fault) == FV_FAULT_SECTION_SIZE);
     EXPECT(!memcmp(fault, &wanted, sizeof wanted) && *count == 9 && buffer.bytes[0] == FILLED);
-    EXPECT(fv_sections_extract(stream, DATA_LEN, 9, buffer.bytes, DATA_LEN, length, fault) == FV_FAULT_SECTION_SIZE);
+    EXPECT(fv_sections_extract(stream, DATA_LEN, 0, 9, buffer.bytes, DATA_LEN, length, fault) == FV_FAULT_SECTION_SIZE);
     EXPECT(!memcmp(fault, &wanted, sizeof wanted) && *length == 9 && buffer.bytes[0] == FILLED);
+    make_both();
+}
+
+/* Checks a volume whose file is marked as fixed: with the flag, the rows, the digests and the parts are those of the
+ * volume without the mark. */
+static void try_marks(void)
+{
+    volume[FILE_AT + 19] |= 4;
+    volume[FILE_AT + 16] = (uint8_t)(volume[FILE_AT + 16] - 4); /* the header checksum */
+    const fv_fault wanted = {FILE_AT + 19, FV_FAULT_FIXED, 0, 0, 0};
+    begin("a fixed file");
+    EXPECT(fv_volume_tree_with(volume, LENGTH, 0, buffer.nodes, 7, count, fault) == FV_FAULT_FIXED);
+    EXPECT(!memcmp(fault, &wanted, sizeof wanted) && *count == 9 && buffer.bytes[0] == FILLED);
+    EXPECT(fv_volume_tree_with(volume, LENGTH, FV_WITHOUT_MARKS, buffer.nodes, 7, count, fault) == FV_OK);
+    EXPECT(*count == 7 && !memcmp(buffer.nodes, nodes, sizeof nodes));
+    EXPECT(fv_volume_tree_digests_with(volume, LENGTH, FV_WITHOUT_MARKS, buffer.digests, 7, count, fault) == FV_OK);
+    for (int i = 1; i < 7; i++) EXPECT(!memcmp(buffer.digests[i].bytes, digests[i], sizeof digests[i]));
+    EXPECT(fv_volume_digest(other, LENGTH, digest, fault) == FV_OK && !memcmp(buffer.digests, digest, sizeof *digest));
+    EXPECT(fv_volume_extract_with(volume, LENGTH, FV_WITHOUT_MARKS, 0, buffer.bytes, LENGTH, length, fault) == FV_OK);
+    EXPECT(*length == LENGTH && !memcmp(buffer.bytes, other, LENGTH));
     make_both();
 }
 
@@ -210,6 +230,7 @@ int main(void)
     make_both();
     try_tree();
     try_stream();
+    try_marks();
     try_packed();
     try_fault();
     try_guid();

@@ -72,10 +72,20 @@ def packed() -> Iterator[bytes]:
     yield from (making.guided(making.UNKNOWN, data, 0), making.guided(making.UNKNOWN, data))
 
 
+def fixed() -> Iterator[bytes]:
+    """Yields volumes with fixed files at several depths: in the volume, in a volume in one of its files, and in a group
+    around that volume."""
+    inner = making.volume([making.file(making.guid(1), b"data", attributes=making.FIXED)], 0x200)
+    nested = making.section(making.VOLUME, inner)
+    for data in (nested, making.section(making.GROUP, nested), making.stream(nested, nested)):
+        for attributes in (0, making.FIXED, making.FIXED | making.SUMMED):
+            yield making.volume([making.file(making.guid(2), data, making.FREEFORM, attributes)], 0x1000)
+
+
 def small_files(folder: Path) -> list[Path]:
     """Writes the small inputs to a folder, each once."""
     texts = (it.encode() for it in TEXTS)
-    found = dict.fromkeys([*PAIR, *made(7, 60), *spelled(), *expressions(), *images(), *packed(), *texts, b""])
+    found = dict.fromkeys([*PAIR, *made(7, 60), *spelled(), *expressions(), *images(), *packed(), *fixed(), *texts, b""])
     files = []
     for number, data in enumerate(data for data in found if len(data) <= SMALL):
         files.append(folder / f"{number}.input")

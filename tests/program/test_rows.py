@@ -30,10 +30,11 @@ from tests.checks import ROOT, read
 from tests.frame import PROGRAM, needs_program
 
 # The number of rows in all files, and the files, by their names and headings.
-ROWS = 1208
+ROWS = 1298
 FILES = {path.stem: rows.tables(path.stem) for path in sorted(rows.FOLDER.glob("*.rows"))}
 # The files whose rows describe runs of a command.
-RUNS = ["normalise", "extract", "scan", "hobs", "list", "sums", "check", "cells", "unfix", "open", "compare", "placed", "text"]
+RUNS = ["normalise", "extract", "extract_open", "scan", "hobs", "list", "list_open", "sums", "check", "cells", "unfix", "open"]
+RUNS += ["compare", "placed", "text"]
 # The files of the crate's tests that have rows.
 TESTS = ["volumes", "command/other_runs", "command/opened_runs"]
 NAME = "0a0a0a0a-0a0a-0a0a-0a0a-0a0a0a0a0a0a"
@@ -86,7 +87,7 @@ def options(name: str, words: list[str]) -> list[str]:
         if words[:1] == ["at"]:
             found += [option, words[1]]
             words = words[2:]
-    if name == "extract":
+    if name in ("extract", "extract-open"):
         byte, section, instance = words
         found += ["--name", NAME.replace("0a", byte), "--instance", instance]
         found += [] if section == "-" else ["--section", section]

@@ -24,6 +24,11 @@ PHASES = {0x13: fv.Phase.DXE, 0x1B: fv.Phase.PEI, 0x1C: fv.Phase.DXE}
 VERDICTS = {True: "canonical", False: "not canonical"}
 # How many parts of a volume are extracted.
 EXTRACTED = 10
+# The limits of a run through packed sections: how deep they nest, the length of the contents of one section and of all
+# together, and how many bytes opened contents count for at least, and a section that a decoder rejects.
+NESTING, CONTENTS, ALL_CONTENTS, LEAST_PRICE, FAILURE_PRICE = 8, 2**28, 2**30, 2**16, 2**24
+# The faults of a section that a decoder has rejected: damaged data, and contents that are too long.
+DECODED = (3, 5)
 
 
 def text(lines: list[str]) -> bytes:
@@ -34,6 +39,11 @@ def text(lines: list[str]) -> bytes:
 def fault_text(fault: fv.Fault) -> str:
     """Returns the text that the program writes for a fault."""
     return f"fault {fault.number} at {fault.offset}"
+
+
+def inner_text(fault: fv.Fault) -> str:
+    """Returns the text that `list --open` writes for a fault of a packed section, or of its contents."""
+    return f"fault {fault.number} at +{fault.offset}"
 
 
 def caught(make: Callable[[bytes], Said], data: bytes, before: str = "") -> Said:
@@ -131,6 +141,61 @@ def listed(data: bytes, has_sums: bool = False) -> Said:
     return 0, text(lines)
 
 
+class Opening:
+    """A run through packed sections: the lines of `list --open`, the volumes in the order of their lines, the number of
+    packed sections whose contents were not searched, and the length that further contents may have."""
+
+    def __init__(self) -> None:
+        self.lines: list[str] = []
+        self.volumes: list[bytes] = []
+        self.unread = 0
+        self.left = ALL_CONTENTS
+
+    def go_through(self, data: bytes, nodes: Sequence[fv.Node], depth: int = 0, deeper: int = NESTING) -> None:
+        """Adds the rows of some data, and of the contents of the packed sections among them. Packed sections may nest
+        `deeper` deep."""
+        held = collections.Counter(node.parent for node in nodes)
+        for row, node in enumerate(nodes):
+            body = data[node.offset : node.offset + node.length]
+            self.lines.append("  " * depth + node_line(node, held[row], body))
+            if node.kind is fv.NodeKind.VOLUME:
+                self.volumes.append(body)
+            elif node.efi_type in (1, 2) and node.content is fv.Content.BYTES and node.kind is fv.NodeKind.SECTION:
+                section = data[node.offset - (node.header_length or 0) : node.offset + node.length]
+                self.open(section, depth + node.depth + 1, deeper)
+
+    def say(self, why: str) -> None:
+        """Adds to the last line why the contents of its section are not listed."""
+        self.lines[-1] += f" {why}"
+        self.unread += 1
+
+    def open(self, section: bytes, depth: int, deeper: int) -> None:
+        """Adds the contents of a packed section, whose line is the last one."""
+        if not deeper or not self.left:
+            self.say("not opened: " + ("total limit reached" if deeper else "nested too deep"))
+            return
+        found = outcome(fv.section_open, section, min(self.left, CONTENTS))
+        if isinstance(found, fv.Fault):
+            self.left = max(self.left - FAILURE_PRICE * (found.number in DECODED), 0)
+            self.say(f"not opened: section {inner_text(found)}")
+            return
+        length, way = len(found.contents), found.way.name.lower().replace("_", "-")
+        self.lines[-1] += f" {way} {length}" + " not verified" * (found.way is fv.Way.SIGNED)
+        self.left = max(self.left - max(length, LEAST_PRICE), 0)
+        nodes = outcome(fv.sections_tree, found.contents)
+        if isinstance(nodes, fv.Fault):
+            self.say(f"not sections: {inner_text(nodes)}")
+            return
+        self.go_through(found.contents, nodes, depth, deeper - 1)
+
+
+def opened(data: bytes) -> Opening:
+    """Goes through the volume with which some data begin, and through its packed sections."""
+    volume, run = front(data), Opening()
+    run.go_through(volume, fv.volume_tree(volume))
+    return run
+
+
 def hobs(data: bytes) -> Said:
     """Makes the output of `hobs`."""
     found = fv.hobs_read(data)
@@ -185,6 +250,7 @@ COMMANDS: dict[str, Callable[[bytes], Said]] = {
     "hobs": hobs,
     "list": listed,
     "list --sums": lambda data: listed(data, True),
+    "list --open": lambda data: (0, text(opened(data).lines)),
     "open": lambda data: (0, fv.section_open(data).contents),
 }
 # What comes before the words of a fault, for commands whose faults are not those of a volume.
@@ -212,6 +278,17 @@ def extract(data: bytes, words: list[str]) -> Said:
     return 1, text(["not found" if file is None or nodes[file].content is fv.Content.SECTIONS else "not sectioned"])
 
 
+def extract_open(data: bytes, words: list[str]) -> Said:
+    """Returns what `extract --open` writes with these arguments, for a part of any file that is not a security core."""
+    run = outcome(opened, data)
+    if isinstance(run, fv.Fault):
+        return 2, text([fault_text(run)])
+    for volume in run.volumes:
+        if any(str(it.guid) == words[1] for it in fv.volume_tree(volume) if it.depth == 1):
+            return extract(volume, words)
+    return 1, text([f"not found, {run.unread} sections not searched" if run.unread else "not found"])
+
+
 def outputs(data: bytes) -> Iterator[tuple[list[str], Said]]:
     """Yields what each command with one input writes about some data: its words, and the output."""
     for command in COMMANDS:
@@ -220,6 +297,7 @@ def outputs(data: bytes) -> Iterator[tuple[list[str], Said]]:
     named = () if isinstance(nodes, fv.Fault) else itertools.islice(parts(nodes), EXTRACTED)
     for words in [*(words for _, words in named), ["--name", str(uuid.UUID(int=0))]]:
         yield ["extract", *words], extract(data, words)
+        yield ["extract", "--open", *words], extract_open(data, words)
 
 
 def main() -> None:

@@ -8,19 +8,23 @@ import sys
 import unittest
 import unittest.mock
 import uuid
+from pathlib import Path
 
 import fv
 from fv import images
-from fv.limits import Full, Limits
+from fv.limits import Budget, Full, Limits
 from fv.names import Names
+from fv.opened import Closed, Way, open_section
 from tests import making as made
-from tests.frame import needs_library
+from tests.frame import needs_firmware, needs_library
+from tests.python.outcomes import CONTENTS, SIGNED, packings
 
 try:
     import brotli  # type: ignore[import]
 except ImportError:
     brotli = None
 
+DAMAGED = "section fault 3 at {}: the packed data are damaged"
 ALPHA, FIXED = made.guid(1), made.file(made.guid(4), made.noise("d", 777), attributes=made.FIXED)
 
 
@@ -37,7 +41,8 @@ def closed_in(data: bytes, limits: Limits = Limits()) -> list[str]:
 
 def holding(*sections: bytes) -> bytes:
     """Returns a volume with one file that holds sections."""
-    return made.volume([made.file(made.guid(1), made.stream(*sections), made.FREEFORM)])
+    file = made.file(made.guid(1), made.stream(*sections), made.FREEFORM)
+    return made.volume([file], max(0x8000, len(file) + 0x1000 & ~7))
 
 
 def packed_file(data: bytes) -> bytes:
@@ -47,7 +52,7 @@ def packed_file(data: bytes) -> bytes:
 
 def brotli_file(data: bytes, length: int) -> bytes:
     """Returns a volume with a section of Brotli data, whose header says how long the contents are."""
-    return holding(made.guided(made.BROTLI, data, fields=struct.pack("<QQ", length, 0)))
+    return holding(made.guided(made.BROTLI, struct.pack("<QQ", length, 0) + data))
 
 
 def unread_in(data: bytes) -> list[tuple[str, str]]:
@@ -158,7 +163,7 @@ class Images(unittest.TestCase):
         found = unread_in(made.volume([changed(wrong, 16, wrong[16] ^ 1), made.NESTED]))
         self.assertEqual(found, [("volume", "it is in a volume that is rejected")])
         for content, count in ((made.section(made.RAW, inner), 1), (made.section(made.VOLUME, inner), 0)):
-            packed = made.guided(made.CRC32, made.stream(made.ui("Own"), content))
+            packed = made.checked(made.stream(made.ui("Own"), content), 1)
             (volume,) = images.read(holding(packed)).volumes
             opened = volume.files[0].sections[0].opened
             parts = opened and [(it.what, it.reason) for it in opened.unread]
@@ -204,22 +209,70 @@ class Images(unittest.TestCase):
             self.assertEqual(([it.what for it in volume.unread], volume.fault), ([what], None))
 
     def test_doubts(self) -> None:
-        # Opens a section whose checksum is wrong or whose data have bytes after their end, and says so.
+        # Opens a section whose checksum or length is wrong, or that is signed, and says so.
         text = made.ui("Text")
         whole = lzma.compress(text, format=lzma.FORMAT_ALONE)
-        other = "the contents have another length than the header says"
+        other, unverified = "the contents have another length than the header says", "the signature is not verified"
         for packed, doubt in (
             (made.guided(made.LZMA, whole), None),
-            (made.guided(made.LZMA, whole + bytes(9)), None),
-            (made.guided(made.LZMA, whole + b"more"), "4 bytes follow the packed data"),
+            (made.guided(made.LZMA, whole + b"more"), None),
             (made.checked(text), None),
             (made.checked(text, 1), "the CRC32 is wrong"),
             (made.compression(text), None),
             (made.compression(text, 5), other),
+            (made.compression(whole, 5, 2), other),
+            (made.guided(SIGNED[0], text, 3, b"signature"), unverified),
+            (made.guided(made.UNKNOWN, text, 2), unverified),
+            (made.guided(made.UNKNOWN, text, 0), None),
         ):
             (file,) = images.read(holding(packed)).volumes[0].files
             opened = file.sections[0].opened
             self.assertEqual((opened and opened.doubts, file.name), ([doubt] if doubt else [], "Text"))
+
+    def test_ways(self) -> None:
+        # Opens a section in each way of libfv. Names a way that only a newer library has.
+        names = {fv.Way.UEFI: "uefi", fv.Way.LZMA_X86: "lzma-x86", fv.Way.CRC32: "crc32"}
+        for it in packings():
+            image = images.read(holding(it.section))
+            opened = image.volumes[0].files[0].sections[0].opened
+            self.assertEqual([file.name for _, file in images.files_in(image)], ["Packed"])
+            self.assertEqual(opened and opened.data, CONTENTS)
+            self.assertEqual(opened and opened.way.folder, names.get(it.way, it.way.name.lower()))
+        later = fv.Opened(CONTENTS, 99)  # type: ignore[arg-type]
+        with unittest.mock.patch("fv.opened.section_open", lambda *_: later):
+            (file,) = images.read(holding(made.guided(made.UNKNOWN, b"", 0))).volumes[0].files
+        way = file.sections[0].opened and file.sections[0].opened.way
+        self.assertEqual((file.name, way), ("Packed", Way("way 99", "opened")))
+
+    def test_sections(self) -> None:
+        # Opens a section with a short or a long header, whose data begin anywhere, up to the limits.
+        zeros = lzma.compress(bytes(5000), format=lzma.FORMAT_ALONE)
+
+        def opened(header: int, offset: int, extra: int = 0, **limits: int) -> str:
+            data = made.LZMA.bytes_le + struct.pack("<HH", offset, 1) + bytes(extra) + zeros
+            size = header + len(data)
+            head = struct.pack("<I", size | made.GUIDED << 24) if header == 4 else struct.pack("<II", 0x2FFFFFF, size)
+            try:
+                found = open_section(memoryview(head + data), header, Budget(Limits(**limits), 0))
+                return f"{found.way.name} {len(found.contents)}"
+            except (Closed, Full) as reason:
+                return str(reason)
+
+        self.assertEqual([opened(4, 24), opened(8, 28), opened(4, 31, 7)], ["LZMA 5000"] * 3)
+        short = "section fault 1 at 20: the section is cut short"
+        found = [opened(4, 23), opened(4, 300), opened(4, 24, section=4999)]
+        self.assertEqual(found, [short, short, "LZMA: more than 4999 bytes"])
+        self.assertEqual([opened(4, 24, total=4999), opened(4, 24, sections=0)], ["4999 bytes", "0 sections"])
+
+    @needs_firmware("ovmf")
+    def test_beside_liblzma(self) -> None:
+        # Opens the sections of Debian's firmware as liblzma does.
+        for image in (*Path("/usr/share/OVMF").glob("*_CODE*.fd"), *Path("/usr/share/AAVMF").glob("*_CODE*.fd")):
+            files = [it for _, it in images.files_in(images.read(image.read_bytes()))]
+            packed = [it for file in files for it in images.leaves(file.sections) if it.is_packed]
+            self.assertGreater(len(packed), 0, image)
+            for it in packed:
+                self.assertEqual(it.opened and it.opened.data, lzma.decompress(it.body[20:], lzma.FORMAT_ALONE), image)
 
     def test_inputs(self) -> None:
         # Reads any buffer, and does not show the bytes of an image in its repr.
@@ -251,32 +304,40 @@ class Images(unittest.TestCase):
             self.assertRaises(Full, images.read, data, limits)
 
     def test_waste(self) -> None:
-        # Counts what is unpacked but not kept: sections that are cut short, and sections with too many parts.
-        cut = made.guided(made.LZMA, lzma.compress(bytes(5 << 20), format=lzma.FORMAT_ALONE)[:700])
-        full = made.compressed(made.section(made.RAW, b"") * 60)
+        # Counts what is unpacked but not kept: sections with too many parts, and the limit for each section that is cut
+        # short, unless its header promises less. A header that promises too much costs nothing.
+        whole = lzma.compress(bytes(5 << 20), format=lzma.FORMAT_ALONE)
+        full, cut, short, long, maybe = (
+            made.compressed(made.section(made.RAW, b"") * 60),
+            made.guided(made.LZMA, whole[:700]),
+            made.guided(made.LZMA, whole[:5] + (5 << 20).to_bytes(8, "little") + whole[13:700]),
+            made.guided(made.LZMA, whole[:5] + (1 << 40).to_bytes(8, "little") + whole[13:700]),
+            made.compression(b"four" + whole, 5 << 20, 2),
+        )
         for packed, limits, count, reason in (
-            (cut, Limits(wasted=10 << 20), 3, "LZMA: the data are cut short"),
             (full, Limits(parts=60), 37, "more than 60 parts"),
+            (cut, Limits(section=6 << 20, wasted=10 << 20), 2, f"LZMA: {DAMAGED.format(724)}"),
+            (short, Limits(wasted=41 << 20), 4, f"LZMA: {DAMAGED.format(724)}"),
+            (long, Limits(wasted=1), 40, "LZMA: more than 268435456 bytes"),
+            (maybe, Limits(wasted=20 << 20, total=1 << 30), 4, ""),
         ):
             no_more = f"more than {limits.wasted} bytes that are not kept"
-            found = closed_in(holding(*[packed] * 40), limits)
-            self.assertEqual(found, [reason] * count + [no_more] * (40 - count), found)
+            found = closed_in(holding(*[packed] * 40) + bytes(8 << 20), limits)
+            self.assertEqual(found, [reason] * count * bool(reason) + [no_more] * (40 - count), found)
 
     def test_tiano(self) -> None:
-        # Opens the compression of the UEFI specification and of Tiano, up to the limit for Python's own work. Data that
-        # have neither are not opened.
+        # Opens the compression of the UEFI specification and of Tiano. Data that have neither are not opened.
         driver = made.stream(made.section(made.PE32, bytes(5000)), made.section(made.UI, "Old\0".encode("utf-16-le")))
         head = struct.pack("<IB", len(driver), 1)
         for width in (4, 5):
             packed = made.packed_by_tiano(driver, width)
             self.assertEqual(names_of(packed_file(head + packed)), ["Old"])
             self.assertEqual(names_of(holding(made.guided(made.TIANO, packed))), ["Old"] * (width == 5))
-            slow = closed_in(packed_file(head + packed), Limits(slow=4000))
-            self.assertEqual(slow, ["more than 4000 symbols of slow compression"])
             for wrong in (packed[:7], packed[:-20], packed[:8] + made.noise("tiano", 300)):
-                self.assertTrue(closed_in(packed_file(head + wrong))[0].startswith("compression: "))
-        self.assertEqual(closed_in(packed_file(b"\0\0\0\0")), ["no compression header"])
-        self.assertEqual(closed_in(packed_file(b"\0\0\0\0\2")), ["compression of the unknown type 2"])
+                self.assertTrue(closed_in(packed_file(head + wrong))[0].startswith("compression: section fault 3 at "))
+        self.assertEqual(closed_in(packed_file(b"\0\0\0\0")), ["section fault 1 at 8: the section is cut short"])
+        self.assertEqual(closed_in(packed_file(b"\0\0\0\0\2")), [f"LZMA: {DAMAGED.format(9)}"])
+        self.assertEqual(closed_in(packed_file(b"\0\0\0\0\3")), ["compression of the unknown type 3"])
 
     def test_no_brotli(self) -> None:
         # Says that a section of Brotli data needs Python's module for it.
@@ -292,6 +353,14 @@ class Images(unittest.TestCase):
         size = len(text)
         for data, length in ((packed, size - 1), (packed, size + 1), (packed[:-2], size), (b"\xff" * 9, 9)):
             self.assertTrue(closed_in(brotli_file(data, length))[0].startswith("Brotli: "), data)
+        # Python's brotli gets 16 bytes at a time, and rejects bytes after the stream that come with its last bytes.
+        texts = (made.section(made.RAW, made.noise("text", length)) for length in range(64))
+        text = next(it for it in texts if len(brotli.compress(it)) % 16 == 0)
+        for more, doubts in ((b"", []), (bytes(30), []), (b"more", ["4 bytes follow the packed data"])):
+            data = brotli_file(brotli.compress(text) + more, len(text))
+            opened = images.read(data).volumes[0].files[0].sections[0].opened
+            self.assertEqual(opened and opened.doubts, doubts)
+        self.assertEqual(closed_in(holding(made.guided(made.BROTLI, b""))), ["Brotli: the data are cut short"])
         bomb = brotli_file(brotli.compress(bytes(1 << 24)), 1 << 24)
         self.assertEqual(closed_in(bomb, Limits(section=1 << 20)), [f"Brotli: more than {1 << 20} bytes"])
 

@@ -78,9 +78,10 @@ class Names(unittest.TestCase):
     def test_calls(self) -> None:
         declared = re.findall(r"\bFV_(?:API|CHECKED)_ [^;]*?\b(fv_\w+)\(", HEADER)
         named = [it for it in declared if not it.startswith("fv_guid_")]  # the module uuid has the same
-        self.assertEqual((len(declared), sorted(named)), (25, sorted(_native.CALLS)))
-        public = set(fv.__all__) - {it.removeprefix("fv_") for it in named}
-        self.assertEqual(len(public), len(fv.__all__) - len(named))
+        self.assertEqual((len(declared), sorted(named)), (28, sorted(_native.CALLS)))
+        functions = {it.removeprefix("fv_").removesuffix("_with") for it in named}  # _with: an argument `without_marks`
+        public = set(fv.__all__) - functions
+        self.assertEqual(len(public), len(fv.__all__) - len(functions))
         self.assertTrue(all(isinstance(getattr(fv, it), type) for it in public - {"Buffer", "LENGTH_MAX"}))
         self.assertEqual((fv.LENGTH_MAX, fv.version_number() >> 16, fv.version()[:2]), (2**28, 2, "2."))
         self.assertEqual(re.sub(r"[.-]?dev\d*$", "", fv.__version__), re.sub(r"-dev$", "", fv.version()))
@@ -307,7 +308,7 @@ class Values(unittest.TestCase):
         listed = fv.hobs_read(hob(1, 56) + hob(5, 24, struct.pack("<QQ", 64, 4096)) + hob(0xFFFF, 8) + b"more")
         blocks = [fv.Hob(None, None, 1, 56), fv.Hob(64, 4096, 5, 24), fv.Hob(None, None, 0xFFFF, 8)]
         self.assertEqual((listed.length, listed.blocks), (88, blocks))
-        firsts = [call(data)[0] for call in (fv.image_scan, fv.volume_tree, fv.volume_cells)]
+        firsts = [fv.image_scan(data)[0], fv.volume_tree(data)[0], fv.volume_cells(data)[0]]
         values = [*firsts, listed.blocks[0], fv.image_check(data + wrong)[1], listed]
         values += [fv.section_way(packings()[0].section), fv.section_open(packings()[0].section)]
         self.assertTrue(all(map(is_frozen, values)) and len({*values[:5]}) == 5)

@@ -4,9 +4,12 @@
 //! digits, a number, or PEI. For each line this program writes the result in the form of `Debug`.
 
 use fv::depex::{evaluate, Phase};
-use fv::{header, hobs, image, section, sections, volume, Error, Guid};
+use fv::{header, hobs, image, section, sections, volume, Error, Guid, Reading};
 use std::fmt::Debug;
 use std::io::{stdin, stdout, BufWriter, Write};
+
+/// The reading that takes the marks of fixed files away.
+const UNMARKED: Reading = Reading::WithoutMarks;
 
 /// Returns the bytes that digits spell.
 fn bytes(digits: &str) -> Vec<u8> {
@@ -25,6 +28,11 @@ fn shown<T: Debug>(result: Result<T, Error>) -> String {
     format!("{result:?}")
 }
 
+/// Returns the number that digits spell.
+fn number(digits: &str) -> usize {
+    digits.parse().expect("a number")
+}
+
 /// Returns the text of the result of a call.
 fn result_of(call: &str, words: &[&str]) -> String {
     let input = &bytes(words[0])[..];
@@ -41,12 +49,24 @@ fn result_of(call: &str, words: &[&str]) -> String {
         ("volume_cells", []) => shown(volume::cells(input)),
         ("volume_tree", []) => shown(volume::tree(input)),
         ("volume_tree_digests", []) => shown(volume::tree_digests(input)),
-        ("volume_extract", [row]) => shown(volume::extract(input, row.parse().expect("a row"))),
+        ("volume_extract", [row]) => shown(volume::extract(input, number(row))),
+        ("volume_tree", ["unmarked"]) => shown(volume::tree_with(input, UNMARKED)),
+        ("volume_tree_digests", ["unmarked"]) => shown(volume::tree_digests_with(input, UNMARKED)),
+        ("volume_extract", [row, "unmarked"]) => {
+            shown(volume::extract_with(input, number(row), UNMARKED))
+        }
         ("section_way", []) => shown(section::way(input)),
-        ("section_open", [limit]) => shown(section::open(input, limit.parse().expect("a limit"))),
+        ("section_open", [limit]) => shown(section::open(input, number(limit))),
         ("sections_tree", []) => shown(sections::tree(input)),
         ("sections_tree_digests", []) => shown(sections::tree_digests(input)),
-        ("sections_extract", [row]) => shown(sections::extract(input, row.parse().expect("a row"))),
+        ("sections_extract", [row]) => shown(sections::extract(input, number(row))),
+        ("sections_tree", ["unmarked"]) => shown(sections::tree_with(input, UNMARKED)),
+        ("sections_tree_digests", ["unmarked"]) => {
+            shown(sections::tree_digests_with(input, UNMARKED))
+        }
+        ("sections_extract", [row, "unmarked"]) => {
+            shown(sections::extract_with(input, number(row), UNMARKED))
+        }
         ("depex_evaluate", ["PEI", names]) => shown(evaluate(input, Phase::Pei, &guids(names))),
         ("depex_evaluate", ["DXE", names]) => shown(evaluate(input, Phase::Dxe, &guids(names))),
         ("hobs_read", []) => shown(hobs::read(input)),

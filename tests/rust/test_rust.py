@@ -19,8 +19,9 @@ import fv
 import rows
 from tests.checks import ROOT, read
 from tests.frame import LIBRARY, RoomCase, needs_library, needs_tool
-from tests.libfv.inputs import spelled
-from tests.python.outcomes import OF_IMAGE, OF_SECTIONS, OF_VOLUME, closed, made, outcome, packings, streams, volume_of
+from tests.libfv.inputs import fixed, spelled
+from tests.python.outcomes import OF_IMAGE, OF_SECTIONS, OF_VOLUME, Call, closed, made, outcome, packings, streams
+from tests.python.outcomes import volume_of
 
 RUST = ROOT / "rust"
 # The longest input of the rows that is passed to the calls.
@@ -48,6 +49,7 @@ def inputs() -> Iterator[bytes]:
     """Yields the made inputs, all inputs of the rows, and inputs with more rows than the first buffer has room for."""
     yield from made().values()
     yield from spelled()
+    yield from fixed()
     library = rows.tables("library")
     images = (row for name in library if name.endswith("images") for row in library[name])
     yield from (rows.spelled(row.partition(" -> ")[0]) for row in images)
@@ -69,12 +71,20 @@ def comparisons() -> Iterator[tuple[bytes, bytes]]:
     yield from itertools.pairwise(made().values())
 
 
+# The argument of a call that reads without the marks of fixed files, and such calls that have no other argument.
+UNMARKED = "unmarked"
+WITH_MARKS: tuple[Call, ...] = fv.volume_tree, fv.volume_tree_digests, fv.sections_tree, fv.sections_tree_digests
+
+
 def requests() -> Iterator[Request]:
     """Yields the calls that are compared: each call with one argument over each input, and all others over inputs that
     they accept."""
     for data in {it: None for it in inputs() if len(it) <= MOST}:
         for call in (*OF_VOLUME, *OF_SECTIONS, *OF_IMAGE, fv.header_read, fv.hobs_read):
             yield call.__name__, (data,)
+        yield from ((call.__name__, (data, UNMARKED)) for call in WITH_MARKS)
+        yield from (("volume_extract", (data, row, UNMARKED)) for row in (0, 1, 2**64 - 1))
+        yield from (("sections_extract", (data, row, UNMARKED)) for row in (0, 2**64 - 1))
         for _, node in streams(data)[:3]:
             stream = data[node.offset : node.offset + node.length]
             yield from ((call.__name__, (stream,)) for call in OF_SECTIONS)
@@ -120,8 +130,10 @@ def result_of(call: str, arguments: tuple[Any, ...]) -> str:
     """Returns the result of a call of the package as `Debug` of Rust shows it."""
     if call == "depex_evaluate":
         arguments = *arguments[:2], [uuid.UUID(bytes_le=it) for it in arguments[2]]
+    is_unmarked = arguments[-1] == UNMARKED
+    named = {"without_marks": True} if is_unmarked else {}
     try:
-        found = getattr(fv, call)(*arguments)
+        found = getattr(fv, call)(*arguments[: len(arguments) - is_unmarked], **named)
     except fv.FaultError as error:
         return f"Err(Rejected({debug(error.fault)}))"
     except IndexError:

@@ -1,6 +1,7 @@
 -- Arguments that are rejected as wrong are not right arguments. Either the reader finds a fault in them (`rejected`); or
 -- a text in them cannot be read, although it can be read in right arguments (`no_input`, `right_part`, `right_image`,
--- `right_path`, `right_volumes`); or an offset is given together with `--all` (`no_place`).
+-- `right_path`, `right_volumes`); or an offset is given together with `--all` (`no_place`), or `--sums` together with
+-- `--open` (`no_task`).
 use Rattle.std.proofs.Common.{◌≡◌, ◌≢◌, ◌&&◌, ◌||◌, ℕ, [], ◌∷◌, ◌∙◌, Bool, List, IfErr, Result, Ok, Err, Option, Some, None, ap, codes, inl, inr}
 use Rattle.std.proofs.Common.{drop, not, refl, subst, sym, true, false, true≢false, Global, IsErrAnd, String, Vec, is_some}
 use Rattle.fv_base.proofs.Laws.{IfErr-weaker, bytes_eq-Decides, bytes_eq}
@@ -13,10 +14,11 @@ use Rattle.fv_plan.specs.declared.plan.ImageFile.{ImageFile}
 use Rattle.fv_plan.specs.declared.plan.Part.{Part}
 use Rattle.fv_plan.specs.declared.plan.VolumeFile.{VolumeFile}
 use Rattle.fv_plan.specs.declared.plan.Command.TheVariants.{Single, Hobs, Open, Compare}
-use Rattle.fv_plan.specs.declared.plan.Task.TheVariants.{Normalise, NormaliseAll, Extract, Check, CheckAll, Cells, Unfix, Scan}
+use Rattle.fv_plan.specs.declared.plan.Task.TheVariants.{Normalise, NormaliseAll, List as Listing, ListSums, ListOpened}
+use Rattle.fv_plan.specs.declared.plan.Task.TheVariants.{Extract, ExtractOpened, Check, CheckAll, Cells, Unfix, Scan}
 use Rattle.fv_arguments.proofs.ArgumentReadLemmas.{by_name, faults_read}
-use Rattle.fv_arguments.specs.Words.{compare_app, extract_app, faults_in, flag_in, hobs_app, image_app, text_in, HasInput, HasTexts, IsAtWord}
-use Rattle.fv_arguments.specs.Words.{IsImageWords, IsPartBy, IsPathWord, IsVolumeWords, command_app, command_name, open_app}
+use Rattle.fv_arguments.specs.Words.{compare_app, extract_app, faults_in, flag_in, hobs_app, image_app, list_app, text_in, HasInput, HasTexts}
+use Rattle.fv_arguments.specs.Words.{IsAtWord, IsImageWords, IsPartBy, IsPathWord, IsVolumeWords, command_app, command_name, open_app}
 use Rattle.fv_arguments.specs.declared.words.WordFault.{WordFault}
 use Rattle.fv_arguments.specs.inner.CommandWords.{AreRightFor, AsksOrFails, IsParsed, ParsesOrFails, app_named}
 use Rattle.fv_arguments.specs.declared.words.WordFault.TheVariants.{Words, OutOfMemory}
@@ -84,7 +86,11 @@ right_input name rest volume right =
     go : (c : Command) → is_on_volume (command_name c) ≡ true → HasTexts rest c → SomeInput (command_name c) rest
     go (Single NormaliseAll at file) volume texts = ((at, file), texts.2)
     go (Single CheckAll at file) volume texts = ((at, file), texts.2)
-    go (Single (Extract part) at file) volume texts = ((at, file), texts.0)
+    go (Single Listing at file) volume texts = ((at, file), texts.2)
+    go (Single ListSums at file) volume texts = ((at, file), texts.2)
+    go (Single ListOpened at file) volume texts = ((at, file), texts.2)
+    go (Single (Extract part) at file) volume texts = ((at, file), texts.1.0)
+    go (Single (ExtractOpened part) at file) volume texts = ((at, file), texts.1.0)
     go (Single Cells at file) volume texts = ((at, file), texts)
     go (Single Unfix at file) volume texts = ((at, file), texts)
     go (Single Scan at file) volume texts = absurd (true≢false (sym volume))
@@ -122,6 +128,18 @@ no_place name rest given image all word some right =
     go (Single CheckAll at file) image texts = placed _ given at word some texts.1 texts.2.0
     go c image texts = true≢false (sym image)
 
+-- right arguments of `list` do not have both flags
+pub no_task : (rest : List (List ℕ)) → flag_in list_app (codes "sums") rest ≡ true → flag_in list_app (codes "open") rest ≡ true
+    → AreRightFor (codes "list") rest → ⊥
+no_task rest sums opened right = go right.0.command right.1.command right.1.texts
+  where
+    go : (c : Command) → codes "list" ≡ command_name c → HasTexts rest c → ⊥
+    go (Single Listing at file) is texts = true≢false (sym sums ∙ texts.0)
+    go (Single ListSums at file) is texts = true≢false (sym opened ∙ texts.1)
+    go (Single ListOpened at file) is texts = true≢false (sym sums ∙ texts.0)
+    go (Single Normalise at file) is texts = other _ _ refl is
+    go c is texts = other _ _ refl is
+
 -- the arguments have a part for `extract`
 abbrev pub SomePart : List (List ℕ) → Type 0
 SomePart rest = (part : Part) × IsPartBy (text_in extract_app (codes "name") rest) (text_in extract_app (codes "section") rest)
@@ -131,7 +149,8 @@ pub right_part : (rest : List (List ℕ)) → AreRightFor (codes "extract") rest
 right_part rest right = go right.0.command right.1.command right.1.texts
   where
     go : (c : Command) → codes "extract" ≡ command_name c → HasTexts rest c → SomePart rest
-    go (Single (Extract part) at file) is texts = (part, texts.1)
+    go (Single (Extract part) at file) is texts = (part, texts.1.1)
+    go (Single (ExtractOpened part) at file) is texts = (part, texts.1.1)
     go c is texts = absurd (other _ _ refl is)
 
 -- the arguments have an image for `hobs`, or none

@@ -17,8 +17,8 @@ use Rattle.fv_arguments.specs.Options.{compare_app, extract_app, faults_in, flag
 use Rattle.fv_arguments.specs.Options.{open_app}
 use Rattle.fv_arguments.specs.Options.{text_in, volume_app}
 use Rattle.fv_plan.specs.declared.plan.Command.TheVariants.{Single, Hobs, Open, Compare}
-use Rattle.fv_plan.specs.declared.plan.Task.TheVariants.{Normalise, NormaliseAll, List as Listing, ListSums, Extract, Check}
-use Rattle.fv_plan.specs.declared.plan.Task.TheVariants.{CheckAll, Cells, Unfix, Scan}
+use Rattle.fv_plan.specs.declared.plan.Task.TheVariants.{Normalise, NormaliseAll, List as Listing, ListSums, ListOpened}
+use Rattle.fv_plan.specs.declared.plan.Task.TheVariants.{Extract, ExtractOpened, Check, CheckAll, Cells, Unfix, Scan}
 
 -- the plan of a command line without arguments: normalise hexadecimal text from standard input
 abbrev pub plan_without_arguments : Plan
@@ -30,7 +30,9 @@ command_name (Single Normalise at file) = codes "normalise"
 command_name (Single NormaliseAll at file) = codes "normalise"
 command_name (Single Listing at file) = codes "list"
 command_name (Single ListSums at file) = codes "list"
+command_name (Single ListOpened at file) = codes "list"
 command_name (Single (Extract part) at file) = codes "extract"
+command_name (Single (ExtractOpened part) at file) = codes "extract"
 command_name (Single Check at file) = codes "check"
 command_name (Single CheckAll at file) = codes "check"
 command_name (Single Cells at file) = codes "cells"
@@ -46,7 +48,9 @@ command_app (Single Normalise at file) = image_app
 command_app (Single NormaliseAll at file) = image_app
 command_app (Single Listing at file) = list_app
 command_app (Single ListSums at file) = list_app
+command_app (Single ListOpened at file) = list_app
 command_app (Single (Extract part) at file) = extract_app
+command_app (Single (ExtractOpened part) at file) = extract_app
 command_app (Single Check at file) = image_app
 command_app (Single CheckAll at file) = image_app
 command_app (Single Cells at file) = volume_app
@@ -118,21 +122,33 @@ abbrev pub HasInput : App → List (List ℕ) → Option ℕ → Option (String 
 HasInput app rest at file =
     IsAtWord (text_in app (codes "at") rest) at × (option_map string_bytes file ≡ text_in app (codes "file") rest)
 
--- the arguments after the command's name give this command. A flag (`--all`, `--sums`) distinguishes two tasks with one
--- name. With `--all` no byte is given
+-- the arguments of `extract` give an input and a part
+abbrev pub HasPart : List (List ℕ) → Part → Option ℕ → Option (String Global) → Type 0
+HasPart rest part at file =
+    HasInput extract_app rest at file
+    × IsPartBy (text_in extract_app (codes "name") rest) (text_in extract_app (codes "section") rest)
+    (text_in extract_app (codes "instance") rest) part
+
+-- the arguments after the command's name give this command. A flag (`--all`, `--sums`, `--open`) distinguishes tasks with
+-- one name. With `--all` no byte is given, and with `--open` a list has no digests
 abbrev pub HasTexts : List (List ℕ) → Command → Type 0
 HasTexts rest (Single Normalise at file) =
     (flag_in image_app (codes "all") rest ≡ false) × HasInput image_app rest at file
 HasTexts rest (Single NormaliseAll at file) =
     (flag_in image_app (codes "all") rest ≡ true) × (at ≡ None) × HasInput image_app rest at file
 HasTexts rest (Single Listing at file) =
-    (flag_in list_app (codes "sums") rest ≡ false) × HasInput list_app rest at file
+    (flag_in list_app (codes "sums") rest ≡ false) × (flag_in list_app (codes "open") rest ≡ false)
+    × HasInput list_app rest at file
 HasTexts rest (Single ListSums at file) =
-    (flag_in list_app (codes "sums") rest ≡ true) × HasInput list_app rest at file
+    (flag_in list_app (codes "sums") rest ≡ true) × (flag_in list_app (codes "open") rest ≡ false)
+    × HasInput list_app rest at file
+HasTexts rest (Single ListOpened at file) =
+    (flag_in list_app (codes "sums") rest ≡ false) × (flag_in list_app (codes "open") rest ≡ true)
+    × HasInput list_app rest at file
 HasTexts rest (Single (Extract part) at file) =
-    HasInput extract_app rest at file
-    × IsPartBy (text_in extract_app (codes "name") rest) (text_in extract_app (codes "section") rest)
-    (text_in extract_app (codes "instance") rest) part
+    (flag_in extract_app (codes "open") rest ≡ false) × HasPart rest part at file
+HasTexts rest (Single (ExtractOpened part) at file) =
+    (flag_in extract_app (codes "open") rest ≡ true) × HasPart rest part at file
 HasTexts rest (Single Check at file) =
     (flag_in image_app (codes "all") rest ≡ false) × HasInput image_app rest at file
 HasTexts rest (Single CheckAll at file) =

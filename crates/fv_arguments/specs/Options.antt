@@ -33,19 +33,23 @@ volume_app = with_rule (with_rule flag_app (option_rule (codes "at"))) (new_rule
 abbrev pub image_app : App
 image_app = with_rule (with_rule (with_rule flag_app (flag_rule (codes "all"))) (option_rule (codes "at"))) (new_rule (codes "file"))
 
--- the rules of `list`: a volume in an input, and `--sums`, which shows digests
+-- the rules of `list`: a volume in an input; `--sums`, which shows digests; and `--open`, which goes through packed
+-- sections
 abbrev pub list_app : App
-list_app = with_rule (with_rule (with_rule flag_app (flag_rule (codes "sums"))) (option_rule (codes "at"))) (new_rule (codes "file"))
+list_app =
+    with_rule (with_rule (with_rule (with_rule flag_app (flag_rule (codes "sums"))) (flag_rule (codes "open")))
+    (option_rule (codes "at"))) (new_rule (codes "file"))
 
 -- the rules of `hobs`: a hand-off list, and an image with its address `--base`, which has 64 bits
 abbrev pub hobs_app : App
 hobs_app = with_rule (with_rule (with_rule flag_app (option_rule (codes "image"))) (option_rule (codes "base"))) (new_rule (codes "file"))
 
--- the rules of `extract`: a volume in an input, and the part that is extracted, where `--instance` has 32 bits
+-- the rules of `extract`: a volume in an input; the part that is extracted, where `--instance` has 32 bits; and `--open`,
+-- which goes through packed sections
 abbrev pub extract_app : App
 extract_app =
-    with_rule (with_rule (with_rule (with_rule (with_rule flag_app (option_rule (codes "name"))) (option_rule (codes "section")))
-    (option_rule (codes "instance"))) (option_rule (codes "at"))) (new_rule (codes "file"))
+    with_rule (with_rule (with_rule (with_rule (with_rule (with_rule flag_app (option_rule (codes "name"))) (option_rule (codes "section")))
+    (option_rule (codes "instance"))) (flag_rule (codes "open"))) (option_rule (codes "at"))) (new_rule (codes "file"))
 
 -- the rules of `open`: a section in an input, or a volume with the path `--section` of a section in it
 abbrev pub open_app : App

@@ -7,4 +7,4 @@ pub use Rattle.fv_arguments.specs.Options.{rows_in, faults_in, text_in, flag_in}
 pub use Rattle.fv_arguments.specs.CommandLines.{plan_without_arguments, command_name, command_app}
 pub use Rattle.fv_arguments.specs.CommandLines.{IsNumeralOf, IsNumberWord, IsInstanceWord, IsPartBy}
 pub use Rattle.fv_arguments.specs.CommandLines.{IsImageWords, is_point, IsPathText, IsPathWord, IsAtWord, IsVolumeWords}
-pub use Rattle.fv_arguments.specs.CommandLines.{HasInput, HasTexts, AsksBy, Asks, AreRight}
+pub use Rattle.fv_arguments.specs.CommandLines.{HasInput, HasPart, HasTexts, AsksBy, Asks, AreRight}

@@ -2,7 +2,7 @@
 
 ghost use Rattle.clap.specs.Words.{App, first_value, found_of};
 ghost use Rattle.fv_arguments.specs.Options.{flag_in};
-ghost use Rattle.fv_arguments.specs.inner.CommandWords.{AreRightFor, AsksOrFails, IsParsed, ParsesOrFails};
+ghost use Rattle.fv_arguments.specs.inner.CommandWords.{AreRightFor, AsksOrFails, IsParsed, ParsesOrFails, list_task};
 ghost use Rattle.fv_arguments.specs.CommandLines.{AsksBy, HasInput, IsAtWord, IsImageWords, IsInstanceWord, IsNumberWord};
 ghost use Rattle.fv_arguments.specs.CommandLines.{IsNumeralOf, IsPartBy, IsPathText, IsPathWord, IsVolumeWords};
 ghost use Rattle.fv_base.specs.Words.{guid_read};
@@ -140,13 +140,30 @@ fn on_image(
     Ok(Command::Single { task, at, file })
 }
 
-// Reads the arguments of `list`: a volume, and whether the list shows digests.
+// Returns the task of `list`, by whether the flags `--sums` and `--open` are given. Returns None if
+// both are given.
+fn list_task(sums: bool, opened: bool) -> Option<Task>
+    ensures { result ≡ list_task sums opened }
+{
+    match (sums, opened) {
+        (false, false) => Some(Task::List),
+        (true, false) => Some(Task::ListSums),
+        (false, true) => Some(Task::ListOpened),
+        (true, true) => None,
+    }
+}
+
+// Reads the arguments of `list`: a volume, and whether the list shows digests or goes through packed
+// sections.
 fn list(alloc: Global, matches: &ArgMatches<'_>) -> Result<Command, WordFault>
     ensures { AsksOrFails (codes "list") matches.now result }
 {
-    let task = task_by(is_given(matches, "sums"), Task::ListSums, Task::List);
+    let (sums, opened) = (is_given(matches, "sums"), is_given(matches, "open"));
     let (at, file) = input_of(alloc, matches)?;
-    Ok(Command::Single { task, at, file })
+    match list_task(sums, opened) {
+        Some(task) => Ok(Command::Single { task, at, file }),
+        None => Err(WordFault::Words),
+    }
 }
 
 // Returns the image with this path and this base, if both are given. If only one of the two is
@@ -249,14 +266,16 @@ fn part_of(
     })
 }
 
-// Reads the arguments of `extract`: a volume, and the part of it that is written.
+// Reads the arguments of `extract`: a volume, the part of it that is written, and whether the part
+// may be in a packed section.
 fn extract(alloc: Global, matches: &ArgMatches<'_>) -> Result<Command, WordFault>
     ensures { AsksOrFails (codes "extract") matches.now result }
 {
     let (section, instance) = (matches.get_str("section"), matches.get_str("instance"));
     let part = part_of(matches.get_str("name"), section, instance)?;
+    let opened = is_given(matches, "open");
     let (at, file) = input_of(alloc, matches)?;
-    let task = Task::Extract(part);
+    let task = task_by(opened, Task::ExtractOpened(part), Task::Extract(part));
     Ok(Command::Single { task, at, file })
 }
 

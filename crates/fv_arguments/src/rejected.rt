@@ -53,6 +53,7 @@ fn broken_rule(name: &str) -> &'static str {
         "extract" => "'--name' is missing",
         "compare" => "two files are needed",
         "hobs" => "'--image' and '--base' must be given together",
+        "list" => "'--sums' and '--open' cannot be given together",
         _ => "'--all' and '--at' cannot be given together",
     }
 }

@@ -1,8 +1,8 @@
 //! The rules of the commands: the flags, options and files that each command takes.
 
 ghost use Rattle.clap.specs.Words.{App, Rule, app_of, new_rule, rule_of, with_rule};
-ghost use Rattle.fv_arguments.specs.Options.{compare_app, extract_app, flag_app, flag_rule, hobs_app, open_app};
-ghost use Rattle.fv_arguments.specs.Options.{option_rule};
+ghost use Rattle.fv_arguments.specs.Options.{compare_app, extract_app, flag_app, flag_rule, hobs_app, list_app};
+ghost use Rattle.fv_arguments.specs.Options.{open_app, option_rule};
 ghost use Rattle.fv_arguments.specs.inner.CommandWords.{app_named};
 ghost use Rattle.std.specs.Prelude.{◌≡◌, codes, false, IfOk};
 
@@ -71,6 +71,15 @@ fn hobs_rules<'a>(alloc: Global) -> Result<Command<'a>, AllocError>
     add(base, Arg::new(alloc, "file"))
 }
 
+// Makes the rules of `list`. Whether both flags are given is checked after parsing.
+fn list_rules<'a>(alloc: Global) -> Result<Command<'a>, AllocError>
+    ensures { IfOk result (λ c. app_of c ≡ list_app) }
+{
+    let sums = add(text_rules(alloc), flag(alloc, "sums"));
+    let opened = add(sums, flag(alloc, "open"));
+    add_volume(alloc, opened)
+}
+
 // Makes the rules of `extract`. Whether a file is named is checked after parsing.
 fn extract_rules<'a>(alloc: Global) -> Result<Command<'a>, AllocError>
     ensures { IfOk result (λ c. app_of c ≡ extract_app) }
@@ -78,7 +87,8 @@ fn extract_rules<'a>(alloc: Global) -> Result<Command<'a>, AllocError>
     let name = add(text_rules(alloc), option(alloc, "name"));
     let section = add(name, option(alloc, "section"));
     let instance = add(section, option(alloc, "instance"));
-    add_volume(alloc, instance)
+    let opened = add(instance, flag(alloc, "open"));
+    add_volume(alloc, opened)
 }
 
 // Makes the rules of `open`: a section in an input, or a volume and the path of a section in it.
@@ -108,7 +118,7 @@ pub(crate) fn rules_of<'a>(alloc: Global, name: &str) -> Result<Command<'a>, All
     match name {
         "normalise" => flag_rules(alloc, "all"),
         "check" => flag_rules(alloc, "all"),
-        "list" => flag_rules(alloc, "sums"),
+        "list" => list_rules(alloc),
         "hobs" => hobs_rules(alloc),
         "extract" => extract_rules(alloc),
         "compare" => compare_rules(alloc),

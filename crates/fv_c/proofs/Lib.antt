@@ -1,10 +1,10 @@
+pub mod ReadBytes
 pub mod MemoryLaws
 pub mod TreeRows
 pub mod TreeParents
 pub mod TreeLoop
 pub mod RowBytes
 pub mod DeeperRows
-pub mod WalkRows
 pub mod SectionRows
 pub mod UnfixKinds
 pub mod HeaderLaws

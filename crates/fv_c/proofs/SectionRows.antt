@@ -1,20 +1,12 @@
--- Proves that the rows that `TreeWalk` returns for a stream have the same parts, in the same order, as the rows of the
--- stream (`section_found`). Proves also that a stream has a frame if it has a section (`has_frame`) or a row
--- (`part_frame`).
-use Rattle.std.proofs.Common.{◌≡◌, ◌≢◌, ℕ, [], ◌∷◌, ◌∙◌, List, refl, sym, Option, Some, option_map, slice_get}
-use Rattle.std.proofs.lemmas.Option.{slice_get-map}
+-- Proves that a stream has a frame if it has a section (`has_frame`) or a row (`row_frame`), and that a stream without
+-- sections has no rows (`none_rows`) and no digests (`none_digests`).
+use Rattle.std.proofs.Common.{◌≡◌, ◌≢◌, ◌<◌, ℕ, [], ◌∷◌, List, arith, length, refl}
 use Rattle.fv_base.specs.Words.{depth_limit}
 use Rattle.fv_tree.specs.Words.{AcceptedStream, HasFrame, MeansSection, Pairwise, SectionMeaning, sections_from}
-use Rattle.fv_rows.specs.Words.{NodeMeaning, TreeRow as Row, rows_of_sections}
-use Rattle.fv_c.specs.ReportedSections.{HasSectionDigests, HasSectionRows, section_part_at, section_rows}
-use Rattle.fv_c.proofs.WalkRows.{of_row, part, same_parts}
-
--- row n of the stream has the same part as row n of the walk
-pub section_found : (ss : List SectionMeaning) (row : ℕ) (o : Option Row) → o ≡ slice_get (rows_of_sections 0 0 0 (sections_from ss)) row
-    → section_part_at row ss ≡ option_map of_row o
-section_found ss row o is =
-    let rows : List Row = rows_of_sections 0 0 0 (sections_from ss) in
-    rw is (sym (slice_get-map part (section_rows ss) row) ∙ rw (same_parts [] rows) (slice_get-map of_row rows row))
+use Rattle.fv_rows.specs.Words.{rows_of_sections}
+use Rattle.fv_c.specs.ReportedDigests.{HasDigests}
+use Rattle.fv_c.specs.ReportedSections.{HasSectionRows}
+use Rattle.fv_c.specs.declared.input.Form.TheVariants.{Stream}
 
 no_pairs : {A B : Type 0} (R : A → B → Type 0) (ys : List B) → Pairwise R [] ys → ys ≡ []
 no_pairs R [] pairs = refl
@@ -27,10 +19,10 @@ has_frame ss tail b is some =
     (frames, tail, split, λ none. some (no_pairs (MeansSection depth_limit) ss (rw none at pairs)))
 
 -- a stream with a row has a frame
-pub part_frame : (ss : List SectionMeaning) (tail : ℕ) (b : List ℕ) (row : ℕ) (node : NodeMeaning) → AcceptedStream ss tail b
-    → section_part_at row ss ≡ Some node → HasFrame b
-part_frame [] tail b row node is found = cc
-part_frame (s ∷ ss) tail b row node is found = has_frame (s ∷ ss) tail b is (λ none. cc)
+pub row_frame : (ss : List SectionMeaning) (tail : ℕ) (b : List ℕ) (row : ℕ) → AcceptedStream ss tail b
+    → row < length (rows_of_sections 0 0 0 (sections_from ss)) → HasFrame b
+row_frame [] tail b row is less = absurd (omega (arith, less))
+row_frame (s ∷ ss) tail b row is less = has_frame (s ∷ ss) tail b is (λ none. cc)
 
 -- ---- a stream without sections
 
@@ -38,6 +30,5 @@ part_frame (s ∷ ss) tail b row node is found = has_frame (s ∷ ss) tail b is 
 pub none_rows : (input : List ℕ) (ss : List SectionMeaning) (tail : ℕ) → AcceptedStream ss tail input → ss ≡ [] → HasSectionRows input []
 none_rows input ss tail is none = record { sections = ss; tail = tail; stream = is; nodes = rw none tt }
 
-pub none_digests : (input : List ℕ) (ss : List SectionMeaning) (tail : ℕ) → AcceptedStream ss tail input → ss ≡ []
-    → HasSectionDigests input []
-none_digests input ss tail is none = record { sections = ss; tail = tail; stream = is; are = rw none tt }
+pub none_digests : (input : List ℕ) (ss : List SectionMeaning) (tail : ℕ) → AcceptedStream ss tail input → ss ≡ [] → HasDigests Stream input []
+none_digests input ss tail is none = (_, (ss, tail, is, refl), rw none tt)

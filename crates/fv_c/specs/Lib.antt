@@ -7,6 +7,7 @@ pub mod ReportedChecks
 pub mod ReportedTruths
 pub mod ReportedHobs
 pub mod ReportedContents
+pub mod ReadInputs
 pub mod TreeParts
 pub mod ReportedTree
 pub mod ReportedDigests

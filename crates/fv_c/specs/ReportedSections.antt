@@ -1,16 +1,12 @@
--- The parts of a stream of sections, as they are reported to C: their rows, their digests and their bytes (PI
--- specification, volume 3, section 3.2.4).
-use Rattle.std.specs.Prelude.{◌≡◌, ◌≢◌, ◌≤◌, ◌⊎◌, ◌+◌, ℕ, List, [], length, Option, Some, option_map, replicate, slice_get}
+-- The rows of a stream of sections, as they are reported to C (PI specification, volume 3, section 3.2.4).
+use Rattle.std.specs.Prelude.{◌≡◌, ◌≢◌, ◌≤◌, ◌⊎◌, ◌+◌, ℕ, List, [], length, replicate}
 use Rattle.fv_base.specs.declared.fault.Fault.{Fault}
 use Rattle.fv_canon.specs.Words.{FirstUnplaced}
 use Rattle.fv_tree.specs.Words.{AcceptedStream, NotStream, Pairwise, SectionMeaning, sections_from, volumes_in_sections}
-use Rattle.fv_rows.specs.Words.{NodeMeaning, SectionNode, TreeRow, rows_of_sections}
+use Rattle.fv_rows.specs.Words.{SectionNode, TreeRow, rows_of_sections}
 use Rattle.fv_c.specs.TreeParts.{NodeRow, no_parent, with_parents}
 use Rattle.fv_c.specs.ReportedTree.{IsPartPlaced, IsSectionIn, reported_node}
-use Rattle.fv_c.specs.ReportedDigests.{IsReportedDigest}
-use Rattle.fv_c.specs.ExtractedParts.{IsNodeImage, volumes_in_node}
 use Rattle.fv_c.specs.declared.tree.FvNode.{FvNode}
-use Rattle.fv_c.specs.declared.canonical.FvSha256.{FvSha256}
 
 -- all rows of a stream of these sections: the sections, and in the same way what is in groups and volumes among them. No
 -- row holds the sections of the stream
@@ -56,14 +52,7 @@ abbrev pub deeper_row : (depth nesting : ℕ) → TreeRow → TreeRow
 deeper_row depth nesting r =
     record { depth = depth + r.depth; nesting = nesting + r.nesting; number = r.number; node = r.node }
 
--- ---- the digests
-
--- the input is a stream of sections, and these are the digests of its rows: one for each row, in the order of the rows
-pub record HasSectionDigests (input : List ℕ) (digests : List FvSha256) : Type 0 where
-  pub sections : List SectionMeaning
-  pub tail : ℕ
-  pub stream : AcceptedStream sections tail input
-  pub are : Pairwise (λ (d : FvSha256) (r : NodeRow). IsReportedDigest r.node d.bytes) digests (section_rows sections)
+-- ---- what is rejected
 
 -- the input is a stream of sections, and f is the fault of the first volume in it that does not fit
 abbrev pub HasUnfitVolume : List ℕ → Fault → Type 0
@@ -74,27 +63,3 @@ HasUnfitVolume input f =
 -- the input is rejected with the fault f: it is not a stream of sections, or a volume in it does not fit
 abbrev pub RejectsSections : List ℕ → Fault → Type 0
 RejectsSections input f = NotStream input f ⊎ HasUnfitVolume input f
-
--- ---- the bytes of a part
-
--- the part of the row with this number, if the stream has such a row
-abbrev pub section_part_at : ℕ → List SectionMeaning → Option NodeMeaning
-section_part_at row sections = option_map (λ (r : NodeRow). r.node) (slice_get (section_rows sections) row)
-
--- the input is a stream of sections with this row, and the bytes are the part of the row
-abbrev pub ExtractsSection : ℕ → List ℕ → List ℕ → Type 0
-ExtractsSection row input bytes =
-    (sections : List SectionMeaning) × (tail : ℕ) × (node : NodeMeaning) × AcceptedStream sections tail input
-    × (section_part_at row sections ≡ Some node) × IsNodeImage node bytes
-
--- the input is a stream of sections that has no row with this number: it has at most `row` rows
-abbrev pub HasNoSectionRow : ℕ → List ℕ → Type 0
-HasNoSectionRow row input =
-    (sections : List SectionMeaning) × (tail : ℕ) × AcceptedStream sections tail input × (length (section_rows sections) ≤ row)
-
--- the input is a stream of sections with this row, and f is the fault of the first volume in the row's part that does
--- not fit. If the part is a volume, it is the first. The depth of f counts only groups and opened volumes inside the part
-abbrev pub HasUnfitSectionRow : ℕ → List ℕ → Fault → Type 0
-HasUnfitSectionRow row input f =
-    (sections : List SectionMeaning) × (tail : ℕ) × (node : NodeMeaning) × AcceptedStream sections tail input
-    × (section_part_at row sections ≡ Some node) × FirstUnplaced (volumes_in_node node) 0 f

@@ -1,18 +1,21 @@
-//! The bytes of a part of a volume.
+//! The bytes of a part of a volume or of a stream of sections.
 
-ghost use Rattle.std.specs.Prelude.{◌≡◌, ◌≢◌, ◌⊎◌, ◌<◌, ◌++◌, ℕ, List, length, drop};
+ghost use Rattle.std.specs.Prelude.{◌≡◌, ◌≢◌, ◌⊎◌, ◌<◌, ◌++◌, ℕ, List, length, drop, false};
 ghost use Rattle.std.specs.Prelude.{IfOk, IfErr, OnErr};
 ghost use Rattle.fv_base.specs.Words.{OrMemory, fault_number, out_of_memory};
 ghost use Rattle.fv_base.specs.declared.fault.Fault.{Fault};
 ghost use Rattle.fv_canon.specs.Words.{FirstUnplaced, IsBodyImage, IsData, IsImage, Unfit};
-ghost use Rattle.fv_tree.specs.Words.{Accepted, NotRead, body_of, content_of};
+ghost use Rattle.fv_tree.specs.Words.{HasFrame, NotRead, NotStream, body_of, content_of};
 ghost use Rattle.fv_tree.specs.Words.{volumes_in_body, volumes_in_content};
 ghost use Rattle.fv_rows.specs.Words.{part_node};
-ghost use Rattle.fv_c.specs.ExtractedParts.{ExtractsTo, HasNoRow, HasUnfitRow, IsNodeImage, volumes_in_node};
+ghost use Rattle.fv_c.specs.ExtractedParts.{ExtractsTo, HasNoRow, HasUnfitRow, IsNodeImage, IsRowUnfit, volumes_in_node};
+ghost use Rattle.fv_c.specs.ReadInputs.{Reads};
 ghost use Rattle.fv_c.specs.Reports.{BeginsWithHeader, reported_fault, no_fault};
-ghost use Rattle.fv_c.specs.inner.Rows.{Extracts, IsWritten};
+ghost use Rattle.fv_c.specs.declared.input.Form.TheVariants.{Volume, Stream};
+ghost use Rattle.fv_c.specs.inner.Rows.{Extracts, ExtractsRow, IsWritten};
 
-use crate::reports::{BUFFER_TOO_SMALL, FvFault, NO_FAULT, NOT_FOUND, set_fault};
+use crate::input::{Form, bytes_read};
+use crate::reports::{BUFFER_TOO_SMALL, FvFault, NOT_FOUND, set_result};
 use fv_base::Fault;
 use fv_canon::headline::what_fits_has_an_image;
 use fv_canon::{
@@ -20,7 +23,7 @@ use fv_canon::{
 };
 use fv_rows::{Part, TreeWalk};
 use fv_sinks::BufferSink;
-use fv_tree::{FileView, SectionView, VolumeView};
+use fv_tree::{FileView, SectionView, VolumeView, whole_stream};
 use std::alloc::Global;
 
 // Writes the canonical image of a volume to the start of the buffer. If the buffer is shorter than
@@ -99,7 +102,7 @@ fn put_body(
 
 // Writes a part to the start of the buffer. If the buffer is shorter than the part, returns 256 and
 // leaves it unchanged. `len` is the length of the part.
-pub(crate) fn put_part(
+fn put_part(
     alloc: Global,
     part: Part<'_, '_>,
     buffer: &mut [u8],
@@ -117,22 +120,20 @@ pub(crate) fn put_part(
     }
 }
 
-// Writes the part of row `row` of a volume, or returns 257 if the volume has no such row. In the
-// contract, `input` is any input that is this volume.
+// Writes the part of row `row` of these rows, or returns 257 if there is no such row.
 fn put_row(
     alloc: Global,
-    volume: &VolumeView<'_>,
+    mut rows: TreeWalk<'_, '_>,
     row: u64,
     buffer: &mut [u8],
     len: &mut u64,
 ) -> Result<u32, Fault>
-    ensures ok { (input : List ℕ) → Accepted input volume.now
-        → IfOk result (Extracts row input buffer.old buffer.new len.old len.new) }
-    ensures err { (input : List ℕ) → Accepted input volume.now
-        → IfErr result (OrMemory (λ f. NotRead input f ⊎ HasUnfitRow row input f)) }
+    ensures ok { IfOk result (ExtractsRow row rows.entry buffer.old buffer.new len.old len.new) }
+    ensures err { IfErr result (OrMemory (IsRowUnfit row rows.entry)) }
+    ensures some { IfErr result (λ _. row < length rows.entry) }
     ensures kept { OnErr result ((buffer.new ≡ buffer.old) × (len.new ≡ len.old)) }
 {
-    match TreeWalk::of(volume).nth(row as usize) {
+    match rows.nth(row as usize) {
         Some(found) => put_part(alloc, found.part, buffer, len),
         None => Ok(NOT_FOUND),
     }
@@ -140,29 +141,55 @@ fn put_row(
 
 // Reads the input as a volume, and writes the part of its row `row`, or returns 257 if the volume
 // has no such row.
-#[tactic(auto, using(crate::proofs::MemoryLaws::header_of))]
-fn put_extracted(
+fn put_from_volume(
     alloc: Global,
-    volume: &[u8],
+    input: &[u8],
+    without_marks: bool,
     row: u64,
     buffer: &mut [u8],
     len: &mut u64,
 ) -> Result<u32, Fault>
-    ensures ok { IfOk result (Extracts row volume.now buffer.old buffer.new len.old len.new) }
-    ensures err { IfErr result (OrMemory (λ f. NotRead volume.now f ⊎ HasUnfitRow row volume.now f)) }
-    ensures memory { IfErr result (λ f. f ≡ out_of_memory → BeginsWithHeader volume.now) }
+    ensures ok { IfOk result (λ r. Reads Volume without_marks input.now
+        (λ b. Extracts Volume row b buffer.old buffer.new len.old len.new r)) }
+    ensures err { IfErr result (OrMemory (λ f. Reads Volume without_marks input.now
+        (λ b. NotRead b f ⊎ HasUnfitRow Volume row b f))) }
+    ensures memory { IfErr result (λ f. f ≡ out_of_memory → without_marks ≡ false → BeginsWithHeader input.now) }
     ensures kept { OnErr result ((buffer.new ≡ buffer.old) × (len.new ≡ len.old)) }
 {
-    let view = whole_volume(alloc, volume)?;
-    put_row(alloc, &view, row, buffer, len)
+    let bytes = bytes_read(alloc, Form::Volume, input, without_marks)?;
+    let volume = whole_volume(alloc, &bytes)?;
+    put_row(alloc, TreeWalk::of(&volume), row, buffer, len)
+}
+
+// Reads the input as a stream of sections, and writes the part of its row `row`, or returns 257 if
+// the stream has no such row.
+fn put_from_stream(
+    alloc: Global,
+    input: &[u8],
+    without_marks: bool,
+    row: u64,
+    buffer: &mut [u8],
+    len: &mut u64,
+) -> Result<u32, Fault>
+    ensures ok { IfOk result (λ r. Reads Stream without_marks input.now
+        (λ b. Extracts Stream row b buffer.old buffer.new len.old len.new r)) }
+    ensures err { IfErr result (OrMemory (λ f. Reads Stream without_marks input.now
+        (λ b. NotStream b f ⊎ HasUnfitRow Stream row b f))) }
+    ensures memory { IfErr result (λ f. f ≡ out_of_memory → without_marks ≡ false → HasFrame input.now) }
+    ensures kept { OnErr result ((buffer.new ≡ buffer.old) × (len.new ≡ len.old)) }
+{
+    let bytes = bytes_read(alloc, Form::Stream, input, without_marks)?;
+    let stream = whole_stream(alloc, &bytes)?;
+    put_row(alloc, TreeWalk::of_stream(&stream), row, buffer, len)
 }
 
 /// Writes a part of a volume, which is the whole input, to the start of the buffer, with the bytes
 /// that the part has in the volume's canonical image. `row` is the number of the part's row in
 /// `fvp_volume_tree`. The part of a volume's row is its canonical image, the part of a file's row
 /// its data, and the part of a section's row its body. Row 0 is the volume itself. `len` is the
-/// length of the part in bytes. Returns 0. (PI specification, volume 3, sections 3.2.1, 3.2.3 and
-/// 3.2.4.)
+/// length of the part in bytes. If `without_marks` is true, the volume is read as if no file at any
+/// level were marked as fixed, for which the call makes a copy of the input. Returns 0. (PI
+/// specification, volume 3, sections 3.2.1, 3.2.3, 3.2.3.1 and 3.2.4.)
 ///
 /// # Errors
 ///
@@ -175,35 +202,87 @@ fn put_extracted(
 pub extern "C" fn fvp_volume_extract(
     alloc: Global,
     volume: &[u8],
+    without_marks: bool,
     row: u64,
     buffer: &mut [u8],
     len: &mut u64,
     fault: &mut FvFault,
 ) -> u32
     // The buffer begins with the part, and is unchanged after that.
-    ensures ok { result ≡ 0 → (bytes : List ℕ) × ExtractsTo row volume.now bytes × (len.new ≡ length bytes)
-        × (buffer.new ≡ bytes ++ drop (length bytes) buffer.old) × (fault.new ≡ no_fault) }
+    ensures ok { result ≡ 0 → (bytes : List ℕ) × Reads Volume without_marks volume.now (λ b. ExtractsTo Volume row b bytes)
+        × (len.new ≡ length bytes) × (buffer.new ≡ bytes ++ drop (length bytes) buffer.old) × (fault.new ≡ no_fault) }
 
     ensures kept { result ≢ 0 → buffer.new ≡ buffer.old }
-    ensures small { result ≡ 256 → (bytes : List ℕ) × ExtractsTo row volume.now bytes
+    ensures small { result ≡ 256 → (bytes : List ℕ) × Reads Volume without_marks volume.now (λ b. ExtractsTo Volume row b bytes)
         × (len.new ≡ length bytes) × (length buffer.old < length bytes) × (fault.new ≡ no_fault) }
 
     // 257 means that the volume has at most `row` rows.
-    ensures absent { result ≡ 257 → HasNoRow row volume.now × (len.new ≡ len.old) × (fault.new ≡ no_fault) }
+    ensures absent { result ≡ 257 → Reads Volume without_marks volume.now (HasNoRow Volume row)
+        × (len.new ≡ len.old) × (fault.new ≡ no_fault) }
 
-    // Any other result is the first fault of the input, the fault of the first volume in the part
-    // that does not fit (its depth counts from the part), or out of memory. Memory can run out only
-    // if the input begins with the header of a volume.
+    // Any other result is the first fault of the bytes that are read, the fault of the first volume
+    // in the part that does not fit (its depth counts from the part), or out of memory. Memory can
+    // run out only if the marks of fixed files are taken away, or if the input begins with the header
+    // of a volume.
     ensures err { result ≢ 0 → result ≢ 256 → result ≢ 257 → (f : Fault)
-        × ((f ≡ out_of_memory) ⊎ (NotRead volume.now f ⊎ HasUnfitRow row volume.now f))
-        × (f ≡ out_of_memory → BeginsWithHeader volume.now)
+        × OrMemory (λ g. Reads Volume without_marks volume.now (λ b. NotRead b g ⊎ HasUnfitRow Volume row b g)) f
+        × (f ≡ out_of_memory → without_marks ≡ false → BeginsWithHeader volume.now)
         × (result ≡ fault_number f.kind) × (fault.new ≡ reported_fault f) × (len.new ≡ len.old) }
 {
-    match put_extracted(alloc, volume, row, buffer, len) {
-        Ok(result) => {
-            *fault = NO_FAULT;
-            result
-        }
-        Err(f) => set_fault(f, fault),
-    }
+    set_result(
+        put_from_volume(alloc, volume, without_marks, row, buffer, len),
+        fault,
+    )
+}
+
+/// Writes a part of a stream of sections, which is the whole input, to the start of the buffer, in
+/// canonical form. `row` is the number of the part's row in `fvp_sections_tree`. The part of a
+/// volume's row is its canonical image, the part of a file's row its data as they are in the
+/// canonical image of its volume, and the part of a section's row its body. `len` is the length of
+/// the part in bytes. If `without_marks` is true, the stream is read as if no file at any level were
+/// marked as fixed, for which the call makes a copy of the input. Returns 0. (PI specification,
+/// volume 3, sections 3.2.1, 3.2.3, 3.2.3.1 and 3.2.4.)
+///
+/// # Errors
+///
+/// The number of the first fault, which is in `fault`: a fault of `whole_stream`; then the fault of
+/// the first volume in the part that does not fit, whose depth counts only groups and opened
+/// volumes inside the part; 24 if memory runs out. `len` is unchanged then. 257 if the stream has no
+/// row with this number: `row` is at least the `count` of `fvp_sections_tree`. `len` is unchanged
+/// then. 256 if the buffer is shorter than `len`. The buffer is unchanged in all cases.
+#[unsafe(no_mangle)]
+pub extern "C" fn fvp_sections_extract(
+    alloc: Global,
+    sections: &[u8],
+    without_marks: bool,
+    row: u64,
+    buffer: &mut [u8],
+    len: &mut u64,
+    fault: &mut FvFault,
+) -> u32
+    // The buffer begins with the part, and is unchanged after that.
+    ensures ok { result ≡ 0 → (bytes : List ℕ) × Reads Stream without_marks sections.now (λ b. ExtractsTo Stream row b bytes)
+        × (len.new ≡ length bytes) × (buffer.new ≡ bytes ++ drop (length bytes) buffer.old) × (fault.new ≡ no_fault) }
+
+    ensures kept { result ≢ 0 → buffer.new ≡ buffer.old }
+    ensures small { result ≡ 256 → (bytes : List ℕ) × Reads Stream without_marks sections.now (λ b. ExtractsTo Stream row b bytes)
+        × (len.new ≡ length bytes) × (length buffer.old < length bytes) × (fault.new ≡ no_fault) }
+
+    // 257 means that the stream has at most `row` rows.
+    ensures absent { result ≡ 257 → Reads Stream without_marks sections.now (HasNoRow Stream row)
+        × (len.new ≡ len.old) × (fault.new ≡ no_fault) }
+
+    // Any other result is the first fault of the bytes that are read, the fault of the first volume
+    // in the part that does not fit (its depth counts from the part), or out of memory. Memory can
+    // run out only if the marks of fixed files are taken away, or if the headers of all sections are
+    // right, and there is a section.
+    ensures err { result ≢ 0 → result ≢ 256 → result ≢ 257 → (f : Fault)
+        × OrMemory (λ g. Reads Stream without_marks sections.now (λ b. NotStream b g ⊎ HasUnfitRow Stream row b g)) f
+        × (f ≡ out_of_memory → without_marks ≡ false → HasFrame sections.now)
+        × (result ≡ fault_number f.kind) × (fault.new ≡ reported_fault f) × (len.new ≡ len.old) }
+{
+    set_result(
+        put_from_stream(alloc, sections, without_marks, row, buffer, len),
+        fault,
+    )
 }

@@ -1,8 +1,8 @@
 //! The results of the calls, and the structure in which they report a fault to C.
 
-ghost use Rattle.std.specs.Prelude.{◌≡◌, ◌↔◌, ◌<◌, ◌≤◌, ℕ, true};
+ghost use Rattle.std.specs.Prelude.{◌≡◌, ◌↔◌, ◌<◌, ◌≤◌, ℕ, true, IfOk, IfErr};
 ghost use Rattle.fv_base.specs.Words.{fault_number, out_of_memory};
-ghost use Rattle.fv_c.specs.Reports.{reported_fault, reported_fault_of, system_number};
+ghost use Rattle.fv_c.specs.Reports.{no_fault, reported_fault, reported_fault_of, system_number};
 
 use fv_base::{Fault, FileSystem};
 
@@ -118,6 +118,22 @@ pub(crate) fn set_fault(f: Fault, fault: &mut FvFault) -> u32
     ensures memory { f ≡ out_of_memory → result ≡ 24 }
 {
     set_fault_of(0, f, fault)
+}
+
+// Returns the result that a call found, and reports that there is no fault; or reports the fault, and
+// returns its number.
+pub(crate) fn set_result(found: Result<u32, Fault>, fault: &mut FvFault) -> u32
+    ensures ok { IfOk found (λ r. (result ≡ r) × (fault.new ≡ no_fault)) }
+    ensures err { IfErr found (λ f. (result ≡ fault_number f.kind) × (0 < result) × (result < 256)
+        × (fault.new ≡ reported_fault f)) }
+{
+    match found {
+        Ok(result) => {
+            *fault = NO_FAULT;
+            result
+        }
+        Err(f) => set_fault(f, fault),
+    }
 }
 
 // Sets `fault` to the report of a fault at depth 0 with this result, and returns the result.

@@ -1,11 +1,12 @@
 //! Lists the tree of a volume: all parts at every level, with their places in the input.
 
 ghost use Rattle.std.specs.Prelude.{◌≡◌, ◌≢◌, ◌<◌, ◌≤◌, ◌+◌, ◌^◌, ◌++◌, ℕ, List, length, drop, map};
-ghost use Rattle.std.specs.Prelude.{IfOk, IfErr, OnOk};
+ghost use Rattle.std.specs.Prelude.{IfOk, IfErr, OnOk, false};
 ghost use Rattle.std.specs.List.{AllByRecursion};
 ghost use Rattle.fv_base.specs.Words.{OrMemory, fault_number, out_of_memory, volume_limit};
 ghost use Rattle.fv_base.specs.declared.fault.Fault.{Fault};
 ghost use Rattle.fv_tree.specs.Words.{Accepted, BeginWithFiles, NotRead, body_of, content_of, file_form};
+ghost use Rattle.fv_c.specs.ReadInputs.{Reads};
 ghost use Rattle.fv_c.specs.Reports.{BeginsWithHeader, reported_fault, no_fault};
 ghost use Rattle.fv_rows.specs.Words.{PartNestsAt, nodes_of, part_node};
 ghost use Rattle.fv_c.specs.TreeParts.{NodeRow};
@@ -13,9 +14,11 @@ ghost use Rattle.fv_c.specs.ReportedTree.{HasTreeRows, bytes_at};
 ghost use Rattle.fv_c.specs.ReportedSections.{IsStreamNodeIn};
 ghost use Rattle.fv_c.specs.ReportedTree.{body_number, content_number};
 ghost use Rattle.fv_c.specs.ReportedHeaders.{volume_name};
+ghost use Rattle.fv_c.specs.declared.input.Form.TheVariants.{Volume};
 ghost use Rattle.fv_c.specs.inner.Trees.{AreAdded, EndsBefore, HasFileNumber, HoldsParts, RowHasFiles, node_in};
 
 use crate::buffer::put_result;
+use crate::input::{Form, bytes_read};
 use crate::reports::{FvFault, system_number};
 use bitflags::Flags;
 use fv_base::Fault;
@@ -310,21 +313,25 @@ fn rows_of(
 }
 
 // Reads the input as a volume, and returns its tree, for C.
-fn rows_of_input(alloc: Global, volume: &[u8]) -> Result<Vec<FvNode>, Fault>
-    ensures ok { IfOk result (λ v. HasTreeRows volume.now v.items) }
-    ensures err { IfErr result (OrMemory (NotRead volume.now)) }
-    ensures memory { IfErr result (λ f. f ≡ out_of_memory → BeginsWithHeader volume.now) }
+fn rows_of_input(alloc: Global, input: &[u8], without_marks: bool) -> Result<Vec<FvNode>, Fault>
+    ensures ok { IfOk result (λ v. Reads Volume without_marks input.now (λ b. HasTreeRows b v.items)) }
+    ensures err { IfErr result (OrMemory (λ f. Reads Volume without_marks input.now (λ b. NotRead b f))) }
+    ensures memory { IfErr result (λ f. f ≡ out_of_memory → without_marks ≡ false → BeginsWithHeader input.now) }
 {
-    let (view, stored) = whole_volume_with_files(alloc, volume)?;
-    rows_of(alloc, volume, &view, stored)
+    let copied = bytes_read(alloc, Form::Volume, input, without_marks)?;
+    let bytes: &[u8] = &copied;
+    let (volume, stored) = whole_volume_with_files(alloc, bytes)?;
+    rows_of(alloc, bytes, &volume, stored)
 }
 
 /// Writes the rows of the tree of a volume, which is the whole input, to the start of `rows`: the
 /// volume, its files and their sections, and in the same way each volume that a section holds. Each
-/// row is followed by the rows of the parts inside its part. `count` is the number of rows. Returns
-/// 0. The data are read once. To find the offsets of the parts, headers are read again, except the
-/// headers of the volume's own files. A file that is marked for update and whose update is in its
-/// volume is left out. (PI specification, volume 3, sections 3.2.1, 3.2.3 and 3.2.4.)
+/// row is followed by the rows of the parts inside its part. `count` is the number of rows. If
+/// `without_marks` is true, the volume is read as if no file at any level were marked as fixed, for
+/// which the call makes a copy of the input. Returns 0. The data are read once. To find the offsets
+/// of the parts, headers are read again, except the headers of the volume's own files. A file that
+/// is marked for update and whose update is in its volume is left out. (PI specification, volume 3,
+/// sections 3.2.1, 3.2.3, 3.2.3.1 and 3.2.4.)
 ///
 /// # Errors
 ///
@@ -335,23 +342,30 @@ fn rows_of_input(alloc: Global, volume: &[u8]) -> Result<Vec<FvNode>, Fault>
 pub extern "C" fn fvp_volume_tree(
     alloc: Global,
     volume: &[u8],
+    without_marks: bool,
     rows: &mut [FvNode],
     count: &mut u64,
     fault: &mut FvFault,
 ) -> u32
     // The buffer begins with the rows, and is unchanged after them.
-    ensures ok { result ≡ 0 → (nodes : List FvNode) × HasTreeRows volume.now nodes × (count.new ≡ length nodes)
-        × (rows.new ≡ nodes ++ drop (length nodes) rows.old) × (fault.new ≡ no_fault) }
+    ensures ok { result ≡ 0 → (nodes : List FvNode) × Reads Volume without_marks volume.now (λ b. HasTreeRows b nodes)
+        × (count.new ≡ length nodes) × (rows.new ≡ nodes ++ drop (length nodes) rows.old) × (fault.new ≡ no_fault) }
 
     ensures kept { result ≢ 0 → rows.new ≡ rows.old }
-    ensures small { result ≡ 256 → (nodes : List FvNode) × HasTreeRows volume.now nodes × (count.new ≡ length nodes)
-        × (length rows.old < length nodes) × (fault.new ≡ no_fault) }
+    ensures small { result ≡ 256 → (nodes : List FvNode) × Reads Volume without_marks volume.now (λ b. HasTreeRows b nodes)
+        × (count.new ≡ length nodes) × (length rows.old < length nodes) × (fault.new ≡ no_fault) }
 
-    // Any other result is the first fault of the input, or out of memory. Memory can run out only
-    // if the input begins with the header of a volume.
-    ensures err { result ≢ 0 → result ≢ 256 → (f : Fault) × OrMemory (NotRead volume.now) f
-        × (f ≡ out_of_memory → BeginsWithHeader volume.now)
+    // Any other result is the first fault of the bytes that are read, or out of memory. Memory can
+    // run out only if the marks of fixed files are taken away, or if the input begins with the header
+    // of a volume.
+    ensures err { result ≢ 0 → result ≢ 256 → (f : Fault) × OrMemory (λ f. Reads Volume without_marks volume.now (λ b. NotRead b f)) f
+        × (f ≡ out_of_memory → without_marks ≡ false → BeginsWithHeader volume.now)
         × (result ≡ fault_number f.kind) × (fault.new ≡ reported_fault f) × (count.new ≡ count.old) }
 {
-    put_result(rows_of_input(alloc, volume), rows, count, fault)
+    put_result(
+        rows_of_input(alloc, volume, without_marks),
+        rows,
+        count,
+        fault,
+    )
 }

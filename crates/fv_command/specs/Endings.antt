@@ -12,11 +12,13 @@ use Rattle.fv_hob.specs.Words.{hob_fault_number}
 use Rattle.fv_open.specs.Words.{open_fault_number}
 use Rattle.fv_text.specs.Words.{line_feed, Change, StopsIn, Writes}
 
--- the exit status for each status of a run: 0 Done, 1 Different, 2 Faulty and Refused, 3 WrongArguments
+-- the exit status for each status of a run: 0 Done, 1 Different, 2 Faulty, Incomplete and Refused,
+-- 3 WrongArguments
 abbrev pub exit_code : Status → ℕ
 exit_code statuses.Done = 0
 exit_code statuses.Different = 1
 exit_code statuses.Faulty = 2
+exit_code statuses.Incomplete = 2
 exit_code statuses.Refused = 2
 exit_code statuses.WrongArguments = 3
 

@@ -1,11 +1,11 @@
 -- The files of definitions, in the order in which they can be read.
-pub mod Extractions
 pub mod Endings
 pub mod RunInputs
 pub mod PairRuns
 pub mod PackedSections
 pub mod OpenRuns
 pub mod ImageChecks
+pub mod PartLines
 pub mod Tasks
 pub mod PlanRuns
 pub mod Words

@@ -1,9 +1,9 @@
 -- The packed section at the end of a path in a volume (PI specification, volume 3, sections 3.2.4, 3.2.5.2 and 3.2.5.7).
-use Rattle.std.specs.Prelude.{◌≡◌, ◌==◌, ◌||◌, ⊤, ℕ, Bool, if◌then◌else◌, List, [], ◌∷◌, Option, Some, None}
-use Rattle.std.specs.Prelude.{slice_get, option_and_then}
-use Rattle.fv_rows.specs.Words.{NodeMeaning, VolumeNode, FileNode, SectionNode, parts_in, parts_in_body}
-use Rattle.fv_section.specs.Words.{FrameForm, frame_form}
-use Rattle.fv_tree.specs.Words.{BodyMeaning, Leaf, Group, Nested, SectionMeaning, Section, body_of}
+use Rattle.std.specs.Prelude.{◌≡◌, ⊤, ℕ, List, [], ◌∷◌, Option, Some, None, slice_get, option_and_then}
+use Rattle.fv_budget.specs.Words.{packed_frame}
+use Rattle.fv_rows.specs.Words.{NodeMeaning, VolumeNode, SectionNode, parts_in, parts_in_body}
+use Rattle.fv_section.specs.Words.{frame_form}
+use Rattle.fv_tree.specs.Words.{BodyMeaning, Nested, body_of}
 use Rattle.fv_command.specs.declared.packed.Packed.{Packed}
 use Rattle.fv_command.specs.declared.packed.Packed.TheVariants as packed
 
@@ -21,16 +21,6 @@ numbered_parts node = parts_in node
 abbrev pub part_at : List ℕ → NodeMeaning → Option NodeMeaning
 part_at [] node = Some node
 part_at (n ∷ path) node = option_and_then (part_at path) (slice_get (numbered_parts node) n)
-
--- whether a section of this type is packed: it is a compression section or a GUID-defined section
-abbrev pub is_packed : ℕ → Bool
-is_packed kind = (kind == 0x01) || (kind == 0x02)
-
--- a section that is packed, as a frame at the offset 0. Its body is plain bytes
-abbrev pub packed_frame : SectionMeaning → Option FrameForm
-packed_frame (Section kind extended (Leaf b)) =
-    if is_packed kind then Some (record { offset = 0; kind = kind; extended = extended; body = b }) else None
-packed_frame (Section kind extended body) = None
 
 -- the result of looking for a packed section, by the part at the end of its path: this section; NotPacked, if the section
 -- is not packed; NotFound, if there is no part or the part is not a section

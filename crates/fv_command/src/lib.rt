@@ -9,7 +9,7 @@
 mod check_run;
 mod comparison_run;
 mod ending;
-mod extracting;
+mod extract_run;
 mod fault_text;
 mod hob_run;
 mod image_check_run;

@@ -2,18 +2,12 @@
 
 ghost use Rattle.std.specs.Prelude.{◌≡◌, option_map, slice_get};
 ghost use Rattle.fv_rows.specs.Words.{VolumeNode, nodes_of, part_node};
-ghost use Rattle.fv_section.specs.Words.{frame_form};
-ghost use Rattle.fv_command.specs.PackedSections.{FindsPacked, is_packed, numbered_parts, packed_frame, part_at};
+ghost use Rattle.fv_command.specs.PackedSections.{FindsPacked, numbered_parts, part_at};
 
+use fv_budget::packed_frame;
 use fv_rows::{Part, Parts, next_part, parts_in};
 use fv_section::Frame;
-use fv_tree::{Body, SectionView, VolumeView};
-
-/// `EFI_SECTION_COMPRESSION`, the type of a compression section.
-const COMPRESSION: u8 = 0x01;
-
-/// `EFI_SECTION_GUID_DEFINED`, the type of a GUID-defined section.
-const GUID_DEFINED: u8 = 0x02;
+use fv_tree::{Body, VolumeView};
 
 /// The result of looking for a packed section.
 #[derive(Drop)]
@@ -61,28 +55,6 @@ fn part_at<'v, 'a>(volume: &'v VolumeView<'a>, path: &[u64]) -> Option<Part<'v, 
         rest = after;
     }
     Some(part)
-}
-
-// Returns whether a section of this type is packed.
-fn is_packed(kind: u8) -> bool
-    ensures { result ≡ is_packed kind }
-{
-    kind == COMPRESSION || kind == GUID_DEFINED
-}
-
-// Returns the section as a frame, if it is packed.
-fn packed_frame<'a>(section: &SectionView<'_, 'a>) -> Option<Frame<'a>>
-    ensures { option_map frame_form result ≡ packed_frame section.now }
-{
-    match section.body() {
-        Body::Leaf(body) if is_packed(section.kind()) => Some(Frame {
-            offset: 0,
-            kind: section.kind(),
-            extended: section.extended(),
-            body,
-        }),
-        _ => None,
-    }
 }
 
 /// Looks for the packed section at the end of a path in a volume. Each number of the path counts

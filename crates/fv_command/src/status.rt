@@ -13,6 +13,9 @@ pub enum Status {
     Different,
     /// A volume of an image was rejected, and everything that was requested was written.
     Faulty,
+    /// Memory ran out while a packed section was opened, or while its contents were read, and what
+    /// was found without this section was written.
+    Incomplete,
     /// An input was rejected, memory ran out, or a write failed.
     Refused,
     /// The command line is wrong.
@@ -20,8 +23,8 @@ pub enum Status {
 }
 
 impl Status {
-    /// Returns the exit status of the process: 0 for Done, 1 for Different, 2 for Faulty and
-    /// Refused, 3 for WrongArguments.
+    /// Returns the exit status of the process: 0 for Done, 1 for Different, 2 for Faulty, Incomplete
+    /// and Refused, 3 for WrongArguments.
     pub fn code(self) -> u8
         ensures { result ≡ exit_code self }
     {
@@ -29,6 +32,7 @@ impl Status {
             Status::Done => 0,
             Status::Different => 1,
             Status::Faulty => 2,
+            Status::Incomplete => 2,
             Status::Refused => 2,
             Status::WrongArguments => 3,
         }

@@ -2,14 +2,14 @@
 
 ghost use Rattle.std.specs.Prelude.{◌≡◌, ◌⊎◌, ℕ, Bool, List, IfOk, IfErr};
 ghost use Rattle.fv_text.specs.Words.{change, view_of};
-ghost use Rattle.fv_tree.specs.Words.{MemoryRanOut, file_named, Meaning, files_of};
-ghost use Rattle.fv_command.specs.Extractions.{IsPart};
+ghost use Rattle.fv_tree.specs.Words.{MemoryRanOut};
+ghost use Rattle.fv_command.specs.PartLines.{opened_status};
 ghost use Rattle.fv_command.specs.RunInputs.{BeginsNone, BeginsWith, GivesAt, InputStops};
-ghost use Rattle.fv_command.specs.Tasks.{PartText, TaskRefusal, TaskText};
+ghost use Rattle.fv_command.specs.Tasks.{TaskRefusal, TaskText};
 ghost use Rattle.fv_command.specs.inner.RunSteps.{Performs, Puts};
 
 use crate::check_run::put_check;
-use crate::extracting::{Extraction, extract};
+use crate::extract_run::{put_extracted, put_extracted_opened};
 use crate::image_check_run::put_image_check;
 use crate::inputs::{read_bytes, taken_at};
 use crate::shown_image::put_shown_image;
@@ -18,8 +18,8 @@ use crate::unfix_run::put_unfixed;
 use fv_base::{Fault, Port, Sink};
 use fv_canon::{ImageDigests, lay_out_image, lay_out_volume, layout};
 use fv_lines::{put_cells, put_list, put_list_with, put_volumes};
-use fv_plan::{Part, Task};
-use fv_text::put_shown;
+use fv_opened::put_opened_list;
+use fv_plan::Task;
 use fv_tree::{VolumeView, read_volume};
 use std::alloc::Global;
 use std::io::Read;
@@ -32,55 +32,6 @@ pub(crate) fn volume_at_start(alloc: Global, input: &[u8]) -> Result<VolumeView<
 {
     let (volume, _length) = read_volume(alloc, input)?;
     Ok(volume)
-}
-
-// Puts the result of an extraction: the bytes of the part, or a line which says that the part does
-// not exist. Returns the status.
-fn put_part<S: Sink>(out: &mut S, hex: bool, extraction: &Extraction<'_>) -> Status
-    ensures { (text : List ℕ) × PartText hex extraction.now result text × S.takes out.old text out.new }
-{
-    match extraction {
-        Extraction::Made(bytes) => {
-            put_shown(out, hex, bytes.as_slice());
-            Status::Done
-        }
-        Extraction::Stored(bytes) => {
-            put_shown(out, hex, bytes);
-            Status::Done
-        }
-        Extraction::NotFound => {
-            out.put(b"not found\n");
-            Status::Different
-        }
-        Extraction::NotSectioned => {
-            out.put(b"not sectioned\n");
-            Status::Different
-        }
-    }
-}
-
-// Extracts a part of the volume at the start of the input.
-fn part_at_start<'a>(alloc: Global, input: &'a [u8], part: &Part) -> Result<Extraction<'a>, Fault>
-    ensures ok { IfOk result (λ x. (m : Meaning) × BeginsWith input.now m
-        × IsPart (file_named part.now.name (files_of m)) part.now.section part.now.instance x) }
-    ensures err { IfErr result (TaskRefusal (Task.Extract part.now) input.now) }
-{
-    let volume = volume_at_start(alloc, input)?;
-    extract(alloc, &volume, part)
-}
-
-// Extracts a part of the volume at the start of the input, and puts it.
-fn extract_part<S: Sink>(
-    alloc: Global,
-    hex: bool,
-    input: &[u8],
-    part: &Part,
-    out: &mut S,
-) -> Result<Status, Fault>
-    ensures { Performs S.takes (Task.Extract part.now) hex input.now out.old out.new result }
-{
-    let extraction = part_at_start(alloc, input, part)?;
-    Ok(put_part(out, hex, &extraction))
 }
 
 // Puts the lines of `list` for the volume at the start of the input.
@@ -101,6 +52,23 @@ fn list_sums<S: Sink>(alloc: Global, input: &[u8], out: &mut S) -> Result<Status
     let places = layout(alloc, &volume)?;
     put_list_with(&volume, ImageDigests::new(places.starts()), out);
     Ok(Status::Done)
+}
+
+/// Returns the status of a run through packed sections: Incomplete if memory ran out there, otherwise
+/// this status.
+pub(crate) fn opened_status(ran_out: bool, status: Status) -> Status
+    ensures { result ≡ opened_status ran_out status }
+{
+    if ran_out { Status::Incomplete } else { status }
+}
+
+// Puts the lines of `list --open` for the volume at the start of the input.
+fn list_opened<S: Sink>(alloc: Global, input: &[u8], out: &mut S) -> Result<Status, Fault>
+    ensures { (hex : Bool) → Performs S.takes Task.ListOpened hex input.now out.old out.new result }
+{
+    let volume = volume_at_start(alloc, input)?;
+    let ran_out = put_opened_list(alloc, &volume, out);
+    Ok(opened_status(ran_out, Status::Done))
 }
 
 // Puts the lines of `cells` for the volume at the start of the input.
@@ -142,7 +110,9 @@ fn perform<S: Sink>(
         }
         Task::List => list(alloc, input, out),
         Task::ListSums => list_sums(alloc, input, out),
-        Task::Extract(part) => extract_part(alloc, hex, input, part, out),
+        Task::ListOpened => list_opened(alloc, input, out),
+        Task::Extract(part) => put_extracted(alloc, hex, input, part, out),
+        Task::ExtractOpened(part) => put_extracted_opened(alloc, hex, input, part, out),
         Task::Check => put_check(alloc, input, out),
         Task::CheckAll => put_image_check(alloc, input, out),
         Task::Cells => cells(alloc, input, out),

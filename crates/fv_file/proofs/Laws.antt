@@ -22,6 +22,8 @@ pub use Rattle.fv_file.proofs.TiledCellLemmas.{IsPayloadIn, tiled_payloads, body
 pub use Rattle.fv_file.proofs.TiledCellLemmas.{IsRead, tiles_read}
 -- If the checks of a cell hold, the cell that is read begins the bytes.
 pub use Rattle.fv_file.proofs.CellFoundLemmas.{CellStandsAt, cell_stands}
+-- If reading a cell fails, the fault is the first fault of its checks. If a cell is read, all its checks hold.
+pub use Rattle.fv_file.proofs.CellVerdictLemmas.{verdict_first, verdict_holds}
 -- ---- a file
 
 -- The data of a file are after its header. A valid file in bytes meets the conditions of `FileRead`.
@@ -48,7 +50,15 @@ pub use Rattle.fv_file.proofs.NewHeaderLemmas.{only_written, only_file, only_pad
 -- ---- the marks of fixed files
 
 -- Removing marks of fixed files does not change the number of bytes.
+pub use Rattle.fv_file.proofs.MarkedFileLemmas.{length-unmarked}
 pub use Rattle.fv_file.proofs.UnmarkLemmas.{length-unmarks}
+-- Removing a mark does not change the bytes before the file. It changes the bytes from the file on as if they were all.
+pub use Rattle.fv_file.proofs.MarkedFileLemmas.{drop-unmarked}
+pub use Rattle.fv_file.proofs.UnmarkLemmas.{front_unmarked}
+-- The fault Fixed is the fault of a valid file whose attributes have bit 0x04. Without its mark, the file is not fixed.
+pub use Rattle.fv_file.proofs.MarkedFileLemmas.{FixedThere, fixed_there, fixed_least, not_fixed_again}
+-- If the first fault of a body is Fixed, one more mark is removed.
+pub use Rattle.fv_file.proofs.UnmarkLemmas.{marks_more}
 -- There is one way to remove all marks.
 pub use Rattle.fv_file.proofs.UnmarkLemmas.{NoneFixed, tiled_unfixed, fault_unfixed, one_unmarked}
 -- The marks can be removed from a body, or a fault that is not Fixed stops this. In the body without marks, each cell has

@@ -12,7 +12,7 @@ use Rattle.fv_base.specs.declared.flash.FileSystem.TheVariants.{Ffs2, Ffs3}
 use Rattle.fv_text.specs.Words.{four_digits, line_feed, two_digits}
 use Rattle.fv_head.specs.Words.{Extension}
 use Rattle.fv_section.specs.Words.{IsText, IsVersion, IsFreeform}
-use Rattle.fv_tree.specs.Words.{Meaning, BodyMeaning, Leaf, Group, Nested}
+use Rattle.fv_tree.specs.Words.{Meaning, SectionMeaning, BodyMeaning, Leaf, Group, Nested}
 use Rattle.fv_tree.specs.Words.{body_len, head_of, files_of, file_name_of, attributes_of, data_len_of, file_kind_of}
 use Rattle.fv_tree.specs.Words.{section_kind_of, section_is_extended, body_of}
 use Rattle.fv_rows.specs.Words.{NodeMeaning, VolumeNode, FileNode, SectionNode, TreeRow, tree_rows}
@@ -75,6 +75,12 @@ abbrev pub form_text : Bool → List ℕ
 form_text true = codes " extended body "
 form_text false = codes " short body "
 
+-- the start of the line of section number i of a stream, indented by k levels: up to the length of its body
+abbrev pub section_start : (k i : ℕ) → SectionMeaning → List ℕ
+section_start k i s =
+    spaces k ++ (codes "section " ++ (decimal i ++ (codes " type " ++ (two_digits (section_kind_of s)
+    ++ (form_text (section_is_extended s) ++ decimal (body_len (body_of s)))))))
+
 -- the line of a part, indented by k levels: a volume, file number i of a volume, or section number i of a stream. `shown`
 -- is the text shown for the body of a section
 abbrev pub node_text : (k i : ℕ) → NodeMeaning → (shown : List ℕ) → Option (List ℕ) → List ℕ
@@ -87,9 +93,7 @@ node_text k i (FileNode f) shown digest =
     ++ (codes " attributes " ++ (two_digits (attributes_of f)
     ++ (codes " data " ++ (decimal (data_len_of f) ++ (digest_text digest ++ line_feed)))))))))))
 node_text k i (SectionNode s) shown digest =
-    spaces k ++ (codes "section " ++ (decimal i ++ (codes " type " ++ (two_digits (section_kind_of s)
-    ++ (form_text (section_is_extended s) ++ (decimal (body_len (body_of s))
-    ++ (shown ++ (digest_text digest ++ line_feed))))))))
+    section_start k i s ++ (shown ++ (digest_text digest ++ line_feed))
 
 -- ---- the rows
 

@@ -8,4 +8,4 @@ pub use Rattle.fv_lines.specs.Notes.{written_in, pad_line, pad_note, pad_notes, 
 pub use Rattle.fv_lines.specs.Notes.{section_depex, file_depexes, depexes_in, IsNoted, AreNotes, depex_line, depex_lines}
 pub use Rattle.fv_lines.specs.Notes.{verdict_line}
 pub use Rattle.fv_lines.specs.ListTexts.{unit_text, Shows, LeafText, BodyShown, spaces, digest_text, system_text, name_text}
-pub use Rattle.fv_lines.specs.ListTexts.{form_text, node_text, NodeText, RowsText, ListText}
+pub use Rattle.fv_lines.specs.ListTexts.{form_text, section_start, node_text, NodeText, RowsText, ListText}

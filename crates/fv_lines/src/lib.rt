@@ -18,5 +18,5 @@ pub use cell_text::put_cells;
 pub use check_text::{put_pad_notes, put_verdict};
 pub use depex_notes::{DepexNote, put_depex_notes};
 pub use hob_text::{MappedImage, SpanContent, put_hobs, span_content};
-pub use list_text::{put_list, put_list_with};
+pub use list_text::{put_list, put_list_with, put_row, put_section_start};
 pub use scan_text::{put_volume_place, put_volumes};

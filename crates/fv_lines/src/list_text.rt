@@ -4,7 +4,7 @@ ghost use Rattle.std.specs.Prelude.{◌≡◌, ℕ, [], List, None, Option};
 ghost use Rattle.fv_tree.specs.Words.{section_kind_of, body_of};
 ghost use Rattle.fv_rows.specs.Words.{FileNode, SectionNode, VolumeNode, part_node, tree_rows};
 ghost use Rattle.fv_lines.specs.ListTexts.{form_text, system_text, name_text, node_text};
-ghost use Rattle.fv_lines.specs.ListTexts.{BodyShown, NodeText, RowsText, ListText, spaces};
+ghost use Rattle.fv_lines.specs.ListTexts.{BodyShown, NodeText, RowsText, ListText, section_start, spaces};
 
 use crate::digest_text::put_digest;
 use crate::leaf_text::put_section_body;
@@ -36,6 +36,25 @@ fn form_words(is_extended: bool) -> &'static [u8]
     }
 }
 
+/// Puts the start of the line of a section, up to the length of its body. `number` is the section's
+/// number in its stream, and `depth` is the number of levels by which the line is indented.
+pub fn put_section_start<S: Sink>(
+    out: &mut S,
+    section: &SectionView<'_, '_>,
+    number: u64,
+    depth: usize,
+)
+    ensures { S.takes out.old (section_start depth number section.now) out.new }
+{
+    put_indent(out, depth);
+    out.put(b"section ");
+    put_decimal(out, number);
+    out.put(b" type ");
+    put_two_digits(out, section.kind());
+    out.put(form_words(section.extended()));
+    put_decimal(out, section.body_len());
+}
+
 // Puts the line of a section. `number` is its number in its stream.
 fn put_section_line<S: Sink>(
     out: &mut S,
@@ -47,13 +66,7 @@ fn put_section_line<S: Sink>(
     ensures { (shown : List ℕ) × BodyShown (section_kind_of section.now) (body_of section.now) shown
         × S.takes out.old (node_text depth number (SectionNode section.now) shown digest) out.new }
 {
-    put_indent(out, depth);
-    out.put(b"section ");
-    put_decimal(out, number);
-    out.put(b" type ");
-    put_two_digits(out, section.kind());
-    out.put(form_words(section.extended()));
-    put_decimal(out, section.body_len());
+    put_section_start(out, section, number, depth);
     put_section_body(out, section);
     put_digest(out, digest);
     out.put(b"\n");
@@ -127,8 +140,9 @@ fn put_volume_line<S: Sink>(
     out.put(b"\n");
 }
 
-// Puts the line of a volume, a file or a section.
-fn put_row<S: Sink>(out: &mut S, row: &Row<'_, '_>, digest: Option<[u8; 32]>)
+/// Puts the line of a volume, a file or a section. Allocates no memory. (PI specification, volume 3,
+/// section 3.2.)
+pub fn put_row<S: Sink>(out: &mut S, row: &Row<'_, '_>, digest: Option<[u8; 32]>)
     ensures { (text : List ℕ) × NodeText row.now.depth row.now.number (part_node row.now.part) digest text
         × S.takes out.old text out.new }
 {

@@ -1,5 +1,6 @@
-//! Bytes that are spelled as text.
+//! Bytes and results that are spelled as text.
 
+use fv_packed::PackedFault;
 use std::alloc::Global;
 use std::str::from_utf8;
 
@@ -53,4 +54,25 @@ pub(crate) fn spelled_bytes(alloc: Global, names: &str, text: &str) -> Option<Ve
         push_words(&mut bytes, words_named(names, word).unwrap_or(word))?;
     }
     Some(bytes)
+}
+
+/// Returns the limit of a call, the words of its data, and the result, which a line spells after a name
+/// and a colon.
+pub(crate) fn row_of(line: &str) -> Option<(usize, &str, &str)> {
+    let (_, rest) = line.split_once(": ")?;
+    let (limit, rest) = rest.split_once(' ')?;
+    let (words, result) = rest.split_once("->")?;
+    Some((limit.parse().ok()?, words, result.trim()))
+}
+
+/// Returns whether a text spells these bytes.
+pub(crate) fn is_spelled(alloc: Global, names: &str, text: &str, bytes: &[u8]) -> Option<bool> {
+    let wanted = spelled_bytes(alloc, names, text)?;
+    Some(wanted.as_slice() == bytes)
+}
+
+/// Returns whether a text is the kind and the offset of a fault.
+pub(crate) fn is_named(alloc: Global, text: &str, fault: &PackedFault) -> Option<bool> {
+    let found = format!(in alloc; "{:?} {}", fault.kind, fault.offset).ok()?;
+    Some(found.as_str() == text)
 }

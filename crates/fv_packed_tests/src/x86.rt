@@ -4,7 +4,7 @@ mod rows;
 
 use crate::spelling::spelled_bytes;
 use fv_x86::decode;
-use rows::{cases, code};
+use rows::cases;
 use std::alloc::Global;
 
 // Returns whether the filter makes the result of a line of its bytes.
@@ -19,13 +19,6 @@ fn gives_its_result(alloc: Global, line: &str) -> Option<bool> {
 #[test]
 fn cases_have_the_results_of_the_reference(rt: HostRuntime) {
     for line in cases().lines() {
-        assert!(rt; gives_its_result(rt.alloc(), line) == Some(true), "{line}");
-    }
-}
-
-#[test]
-fn encoded_code_becomes_code_again(rt: HostRuntime) {
-    for line in code().lines() {
         assert!(rt; gives_its_result(rt.alloc(), line) == Some(true), "{line}");
     }
 }

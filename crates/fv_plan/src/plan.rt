@@ -66,8 +66,13 @@ pub enum Task {
     /// List the files and the sections, with the SHA-256 of each volume's canonical image, of each
     /// file's data in that image, and of each leaf section's body.
     ListSums,
+    /// List the files and the sections of a volume, also those in packed sections.
+    ListOpened,
     /// Write the data of a file of a volume, or the body of one of the file's sections.
     Extract(Part),
+    /// Write the data of a file, or the body of one of its sections. The file is in a volume, or in
+    /// a volume in a section of it, which may be packed.
+    ExtractOpened(Part),
     /// Report whether a volume is its own canonical image, and its parts that deserve a note.
     Check,
     /// Report for each volume of an image whether it is its own canonical image, or its fault.

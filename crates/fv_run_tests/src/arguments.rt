@@ -68,6 +68,9 @@ fn plans() -> &'static str {
     fv list --sums: Plan { hex: false, command: Single { task: ListSums, at: None, file: None } }\n\
     fv list --at 64 --sums a.txt --hex: Plan { hex: true, command: Single { task: ListSums, at: Some(64), file: \
         Some(\"a.txt\") } }\n\
+    fv list --open: Plan { hex: false, command: Single { task: ListOpened, at: None, file: None } }\n\
+    fv list a.txt --hex --at=8 --open: Plan { hex: true, command: Single { task: ListOpened, at: Some(8), file: \
+        Some(\"a.txt\") } }\n\
     fv cells: Plan { hex: false, command: Single { task: Cells, at: None, file: None } }\n\
     fv cells --at 64 --hex a.txt: Plan { hex: true, command: Single { task: Cells, at: Some(64), file: \
         Some(\"a.txt\") } }\n\
@@ -116,6 +119,8 @@ fn plans() -> &'static str {
         section: None, instance: 1 }), at: None, file: Some(\"a.txt\") } }\n\
     fv extract --name NAME --section 19 --instance 2 --hex: Plan { hex: true, command: Single { task: Extract(Part \
         { name: NAME, section: Some(25), instance: 2 }), at: None, file: None } }\n\
+    fv extract --open --name NAME --section 10: Plan { hex: false, command: Single { task: ExtractOpened(Part { \
+        name: NAME, section: Some(16), instance: 1 }), at: None, file: None } }\n\
     fv extract --name NAME --section 1 a.fv: Plan { hex: false, command: Single { task: Extract(Part { name: NAME, \
         section: Some(1), instance: 1 }), at: None, file: Some(\"a.fv\") } }\n\
     fv extract --name NAME --section=1B: Plan { hex: false, command: Single { task: Extract(Part { name: NAME, \

@@ -1,27 +1,36 @@
 -- The run of a plan does not end with the status of wrong arguments (`never_wrong`).
 use Rattle.std.proofs.Common.{◌≡◌, ℕ, ◌∙◌, List, Bool, true, false, cond, inl, inr, subst, sym, Option, None, Some, Vec, Global}
 use Rattle.fv_text.specs.Words.{Change}
-use Rattle.fv_command.specs.Words.{HasText, Runs, RunsOver, CommandRunText, OpenText, PackedText, PartText, TaskText}
+use Rattle.fv_command.specs.Words.{HasText, Runs, RunsOver, CommandRunText, OpenText, PackedText, TaskText}
+use Rattle.fv_command.specs.Words.{found_status, opened_status, part_status}
 use Rattle.fv_command.specs.declared.ending.Ending.{Ending}
 use Rattle.fv_command.specs.declared.ending.Refusal.{Refusal}
-use Rattle.fv_command.specs.declared.extracting.Extraction.{Extraction}
 use Rattle.fv_command.specs.declared.packed.Packed.{Packed}
 use Rattle.fv_command.specs.declared.packed.Packed.TheVariants as packed
 use Rattle.fv_command.specs.declared.status.Status.{Status}
-use Rattle.fv_command.specs.declared.extracting.Extraction.TheVariants.{Made, Stored, NotFound, NotSectioned}
 use Rattle.fv_command.specs.declared.status.Status.TheVariants.{Done, Different, Faulty, Refused, WrongArguments}
+use Rattle.fv_extract.specs.declared.outcome.Outcome.{Outcome}
+use Rattle.fv_extract.specs.declared.outcome.Outcome.TheVariants.{Put, NotFound, NotSectioned}
 use Rattle.fv_plan.specs.declared.plan.Command.{Command}
 use Rattle.fv_plan.specs.declared.plan.Plan.{Plan}
 use Rattle.fv_plan.specs.declared.plan.Task.{Task}
 use Rattle.fv_plan.specs.declared.plan.Command.TheVariants.{Single, Hobs, Open, Compare}
-use Rattle.fv_plan.specs.declared.plan.Task.TheVariants.{Normalise, NormaliseAll, List as Listing, ListSums, Extract, Check, CheckAll, Cells, Unfix}
-use Rattle.fv_plan.specs.declared.plan.Task.TheVariants.{Scan}
+use Rattle.fv_plan.specs.declared.plan.Task.TheVariants.{Normalise, NormaliseAll, List as Listing, ListSums, ListOpened}
+use Rattle.fv_plan.specs.declared.plan.Task.TheVariants.{Extract, ExtractOpened, Check, CheckAll, Cells, Unfix, Scan}
 
-part_not_wrong : (hex : Bool) (x : Extraction) (text : List ℕ) → PartText hex x WrongArguments text → ⊥
-part_not_wrong hex (Made bytes) text said = said
-part_not_wrong hex (Stored bytes) text said = said
-part_not_wrong hex NotFound text said = said
-part_not_wrong hex NotSectioned text said = said
+part_not_wrong : (outcome : Outcome) → WrongArguments ≡ part_status outcome → ⊥
+part_not_wrong Put is = cc
+part_not_wrong NotFound is = cc
+part_not_wrong NotSectioned is = cc
+
+found_not_wrong : (outcome : Option Outcome) → WrongArguments ≡ found_status outcome → ⊥
+found_not_wrong (Some outcome) is = part_not_wrong outcome is
+found_not_wrong None is = cc
+
+opened_not_wrong : (ran_out : Bool) (status : Status) → (WrongArguments ≡ status → ⊥) → WrongArguments ≡ opened_status ran_out status
+    → ⊥
+opened_not_wrong true status not is = cc
+opened_not_wrong false status not is = not is
 
 checks_not_wrong : (rejected another : Bool) → WrongArguments ≡ cond rejected Faulty (cond another Different Done) → ⊥
 checks_not_wrong true another is = cc
@@ -33,7 +42,10 @@ says_not_wrong Normalise hex input text said = said
 says_not_wrong NormaliseAll hex input text said = said
 says_not_wrong Listing hex input text said = said
 says_not_wrong ListSums hex input text said = said
-says_not_wrong (Extract part) hex input text (m, x, begins, is, said) = part_not_wrong hex x text said
+says_not_wrong ListOpened hex input text (m, ran_out, begins, lists, is) = opened_not_wrong ran_out Done (λ bad. cc) is
+says_not_wrong (Extract part) hex input text (m, x, outcome, bytes, begins, are, shows, is, said) = part_not_wrong outcome is
+says_not_wrong (ExtractOpened part) hex input text (m, found, bytes, begins, are, is, said) =
+    opened_not_wrong found.ran_out (found_status found.outcome) (found_not_wrong found.outcome) is
 says_not_wrong Check hex input text said = said
 says_not_wrong CheckAll hex input text (checks, found, is, text_is) = checks_not_wrong _ _ is
 says_not_wrong Cells hex input text said = said

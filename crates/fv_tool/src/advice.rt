@@ -12,10 +12,10 @@ pub const VERSION: &str = "2.1.0-dev";
 pub const SYNOPSIS: &str = "\
     fvtool\n\
     fvtool normalise [--at N | --all] [--hex] [FILE]\n\
-    fvtool list [--sums] [--at N] [--hex] [FILE]\n\
+    fvtool list [--sums | --open] [--at N] [--hex] [FILE]\n\
     fvtool cells [--at N] [--hex] [FILE]\n\
     fvtool unfix [--at N] [--hex] [FILE]\n\
-    fvtool extract --name GUID [--section HH] [--instance N] [--at N] [--hex] [FILE]\n\
+    fvtool extract --name GUID [--section HH] [--instance N] [--open] [--at N] [--hex] [FILE]\n\
     fvtool open [--section PATH] [--at N] [--hex] [FILE]\n\
     fvtool check [--at N | --all] [--hex] [FILE]\n\
     fvtool scan [--hex] [FILE]\n\
@@ -34,6 +34,7 @@ pub const COMMANDS: &str = "\
     scan       finds the volumes in an image\n\
     compare    reports whether two volumes mean the same, or where they first differ\n\
     hobs       lists the blocks of a hand-off list\n\
+    --open     goes through compressed and GUID-defined sections: for list and extract\n\
     --at N     is for the volume that begins at byte N of the input: scan shows these numbers\n\
     --hex      is for inputs and outputs that are hexadecimal text\n\
     FILE       is the input; without FILE, standard input is read";
@@ -55,6 +56,11 @@ pub const SEARCH: &str = "\
 pub const FAULTY: &str = "\
     a volume was rejected, and its line shows the fault (man fvtool lists the faults; \
     fv-same, fv-unpack and fv-map read volumes with fault 15)";
+
+/// The message about a run through packed sections in which memory ran out.
+pub const RAN_OUT: &str = "\
+    memory ran out while a packed section was opened or read, so the output does not have what is in \
+    this section (try again with more memory)";
 
 /// What to do about a result that was not written.
 pub const INCOMPLETE: &str = "check the exit status: the output is incomplete";
@@ -122,6 +128,9 @@ pub enum Advice<'a> {
     /// A volume of an image was rejected, and its line has the fault. The image is the file at this
     /// path, or None if it is not known or is standard input.
     Faulty(Option<&'a str>),
+    /// Memory ran out in a packed section, and the result lacks what is in this section. The input is
+    /// the file at this path, or None if it is not known or is standard input.
+    Incomplete(Option<&'a str>),
     /// A write of the result failed.
     NotWritten,
     /// The image has no volume. The message says how to search for one.
@@ -157,6 +166,7 @@ impl fmt::Display for Advice<'_> {
             ),
             Advice::Refused(cause) => write!(f, "fvtool: {cause}"),
             Advice::Faulty(path) => write!(f, "fvtool: {}{FAULTY}", Head(*path)),
+            Advice::Incomplete(path) => write!(f, "fvtool: {}{RAN_OUT}", Head(*path)),
             Advice::NotWritten => write!(f, "fvtool: {} ({INCOMPLETE})", FaultKind::WriteFault),
             Advice::NoVolume => write!(f, "fvtool: no volume was found ({FURTHER})\n{SEARCH}"),
         }

@@ -94,6 +94,13 @@ fn explain_rejected_volume<P: Process>(alloc: Global, process: &P) {
     process.advise(Advice::Faulty(path.map(|path| path.as_str())));
 }
 
+// Says that memory ran out in a packed section.
+fn explain_incomplete<P: Process>(alloc: Global, process: &P) {
+    let plan = plan_of(alloc, process);
+    let path = plan.as_ref().and_then(|plan| plan.first());
+    process.advise(Advice::Incomplete(path.map(|path| path.as_str())));
+}
+
 // Returns whether the command writes a line for each volume of an image, and nothing else.
 fn finds_volumes(command: &Command) -> bool {
     match command {
@@ -111,8 +118,8 @@ fn explain_no_output<P: Process>(alloc: Global, process: &P) {
 }
 
 /// Explains on standard error how a run ended: the fault that stopped it, a failed write, the fault
-/// in its arguments, or that a volume was rejected. Only at a terminal it shows the forms of a wrong
-/// command line, and reports that no volume was found.
+/// in its arguments, that a volume was rejected, or that memory ran out in a packed section. Only at
+/// a terminal it shows the forms of a wrong command line, and reports that no volume was found.
 pub fn advise<P: Process>(alloc: Global, process: &P, ending: Ending, is_written: bool) {
     if let Some(refusal) = ending.refusal {
         explain_refusal(alloc, process, refusal);
@@ -123,6 +130,7 @@ pub fn advise<P: Process>(alloc: Global, process: &P, ending: Ending, is_written
     match ending.status {
         Status::WrongArguments => explain_arguments(alloc, process),
         Status::Faulty => explain_rejected_volume(alloc, process),
+        Status::Incomplete => explain_incomplete(alloc, process),
         Status::Done if process.is_at_terminal() && !process.has_written() => {
             explain_no_output(alloc, process);
         }

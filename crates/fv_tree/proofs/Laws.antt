@@ -62,6 +62,9 @@ pub use Rattle.fv_tree.proofs.LocatedLaws.{volume_files, one_files, begun_data}
 pub use Rattle.fv_tree.proofs.VolumeCellLaws.{bad_cell, bad_header}
 -- ---- clearing the bits of fixed files
 
+-- if the bytes before the first file and the number of bytes are unchanged, the bytes begin with the same header. This is
+-- so after fixed bits were cleared
+pub use Rattle.fv_tree.proofs.FixedMarkLaws.{header_kept, Kept, kept}
 -- if all of a vector is overwritten, the vector has the new items
 pub use Rattle.fv_tree.proofs.UnfixedInputLaws.{whole_kept}
 -- ---- the first difference of two meanings

@@ -37,6 +37,7 @@ constants! {
         FV_SECTION_FIRMWARE_VOLUME_IMAGE = 0x17, FV_SECTION_FREEFORM_SUBTYPE_GUID = 0x18, FV_SECTION_RAW = 0x19,
         FV_SECTION_PEI_DEPEX = 0x1B, FV_SECTION_MM_DEPEX = 0x1C;
     u32: FV_PHASE_PEI = 0, FV_PHASE_DXE = 1;
+    u32: FV_WITHOUT_MARKS = 1;
     u32: FV_DEPEX_FALSE = 0, FV_DEPEX_TRUE = 1, FV_DEPEX_ORDER = 2;
     u32: FV_WAY_STORED = 1, FV_WAY_STANDARD = 2, FV_WAY_UEFI = 3, FV_WAY_TIANO = 4, FV_WAY_CUSTOMIZED = 5,
         FV_WAY_LZMA = 6, FV_WAY_LZMA_X86 = 7, FV_WAY_CRC32 = 8, FV_WAY_SIGNED = 9, FV_WAY_PLAIN = 10;
@@ -87,18 +88,24 @@ extern "C" {
         fault: *mut fv_fault) -> fv_result;
     pub fn fv_volume_tree(volume: *const c_void, size: usize, rows: *mut fv_node, room: usize, count: *mut usize,
         fault: *mut fv_fault) -> fv_result;
+    pub fn fv_volume_tree_with(volume: *const c_void, size: usize, flags: u32, rows: *mut fv_node, room: usize,
+        count: *mut usize, fault: *mut fv_fault) -> fv_result;
     pub fn fv_volume_tree_digests(volume: *const c_void, size: usize, rows: *mut fv_sha256, room: usize,
         count: *mut usize, fault: *mut fv_fault) -> fv_result;
+    pub fn fv_volume_tree_digests_with(volume: *const c_void, size: usize, flags: u32, rows: *mut fv_sha256,
+        room: usize, count: *mut usize, fault: *mut fv_fault) -> fv_result;
     pub fn fv_volume_extract(volume: *const c_void, size: usize, row: usize, buffer: *mut c_void, buffer_size: usize,
         length: *mut usize, fault: *mut fv_fault) -> fv_result;
+    pub fn fv_volume_extract_with(volume: *const c_void, size: usize, flags: u32, row: usize, buffer: *mut c_void,
+        buffer_size: usize, length: *mut usize, fault: *mut fv_fault) -> fv_result;
     pub fn fv_section_way(section: *const c_void, size: usize, way: *mut fv_way, fault: *mut fv_fault) -> fv_result;
     pub fn fv_section_open(section: *const c_void, size: usize, limit: usize, buffer: *mut c_void, buffer_size: usize,
         found: *mut fv_contents, fault: *mut fv_fault) -> fv_result;
-    pub fn fv_sections_tree(sections: *const c_void, size: usize, rows: *mut fv_node, room: usize, count: *mut usize,
-        fault: *mut fv_fault) -> fv_result;
-    pub fn fv_sections_tree_digests(sections: *const c_void, size: usize, rows: *mut fv_sha256, room: usize,
+    pub fn fv_sections_tree(sections: *const c_void, size: usize, flags: u32, rows: *mut fv_node, room: usize,
         count: *mut usize, fault: *mut fv_fault) -> fv_result;
-    pub fn fv_sections_extract(sections: *const c_void, size: usize, row: usize, buffer: *mut c_void,
+    pub fn fv_sections_tree_digests(sections: *const c_void, size: usize, flags: u32, rows: *mut fv_sha256, room: usize,
+        count: *mut usize, fault: *mut fv_fault) -> fv_result;
+    pub fn fv_sections_extract(sections: *const c_void, size: usize, flags: u32, row: usize, buffer: *mut c_void,
         buffer_size: usize, length: *mut usize, fault: *mut fv_fault) -> fv_result;
     pub fn fv_depex_evaluate(expression: *const c_void, size: usize, phase: u32, installed: *const fv_guid,
         installed_count: usize, value: *mut u32, fault: *mut fv_fault) -> fv_result;

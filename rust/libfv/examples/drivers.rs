@@ -1,11 +1,12 @@
 // SPDX-License-Identifier: BSD-2-Clause-Patent
 //! An example for Rust programs: lists the drivers and other files of a flash image, also those in
 //! compressed sections. Each line has the type of a file (07 is a driver, 06 a PEIM) and its name, or
-//! its GUID if it has no name.
+//! its GUID if it has no name. Files that are marked as fixed, as in images for ARM, are read without
+//! their marks.
 //!   cargo run --offline --manifest-path rust/Cargo.toml --example drivers IMAGE
 
 use fv::volume::{Node, NodeKind};
-use fv::{section, section_type, sections, volume};
+use fv::{section, section_type, sections, volume, Reading};
 use std::error::Error;
 use std::io::{stdout, Write};
 use std::process::ExitCode;
@@ -66,7 +67,11 @@ impl Lines {
     /// Adds the files in the contents of a packed section.
     fn open(&mut self, section: &[u8], most_open: usize) -> Result<(), fv::Error> {
         let contents = section::open(section, MOST_CONTENTS)?.into_contents();
-        self.list(&sections::tree(&contents)?, &contents, most_open);
+        self.list(
+            &sections::tree_with(&contents, Reading::WithoutMarks)?,
+            &contents,
+            most_open,
+        );
         Ok(())
     }
 }
@@ -81,7 +86,7 @@ fn run() -> Result<(), Box<dyn Error>> {
     let mut lines = Lines::default();
     for header in fv::image::scan(&image)? {
         let bytes = &image[header.range()];
-        if let Ok(rows) = volume::tree(bytes) {
+        if let Ok(rows) = volume::tree_with(bytes, Reading::WithoutMarks) {
             lines.list(&rows, bytes, MOST_OPEN);
         }
     }

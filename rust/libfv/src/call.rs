@@ -2,6 +2,7 @@
 //! The forms of calls.
 
 use crate::error::check;
+use crate::reading::Reading;
 use crate::row::Row;
 use crate::Error;
 use libfv_sys as sys;
@@ -62,10 +63,33 @@ pub(crate) fn rows<T: Row>(call: RowsCall<T::Raw>, input: &[u8]) -> Result<Vec<T
     }
 }
 
-/// A call that writes the part of a row of its input.
+/// A call with flags that writes rows about an input.
+type RowsCallWith<R> =
+    unsafe extern "C" fn(*const c_void, usize, u32, *mut R, usize, *mut usize, *mut sys::fv_fault) -> sys::fv_result;
+
+/// Returns the rows that a call writes about an input, which it reads as it is said.
+pub(crate) fn rows_with<T: Row>(call: RowsCallWith<T::Raw>, input: &[u8], reading: Reading) -> Result<Vec<T>, Error> {
+    // SAFETY: as in `rows`.
+    unsafe {
+        filled(ROOM, |buffer: *mut T, room, count, fault| {
+            call(
+                address(input),
+                input.len(),
+                reading.flags(),
+                buffer.cast(),
+                room,
+                count,
+                fault,
+            )
+        })
+    }
+}
+
+/// A call with flags that writes the part of a row of its input.
 type PartCall = unsafe extern "C" fn(
     *const c_void,
     usize,
+    u32,
     usize,
     *mut c_void,
     usize,
@@ -73,14 +97,24 @@ type PartCall = unsafe extern "C" fn(
     *mut sys::fv_fault,
 ) -> sys::fv_result;
 
-/// Returns the bytes of the part of a row, which a call writes.
-pub(crate) fn part(call: PartCall, input: &[u8], row: usize) -> Result<Vec<u8>, Error> {
+/// Returns the bytes of the part of a row, which a call writes about an input that it reads as it is
+/// said.
+pub(crate) fn part_with(call: PartCall, input: &[u8], row: usize, reading: Reading) -> Result<Vec<u8>, Error> {
     // No part is longer than the input. Memory that is never written to costs little.
     // SAFETY: the input is a slice, the other pointers come from `filled`, and the call writes what
     // fv.h says.
     unsafe {
         filled(input.len(), |buffer: *mut u8, room, length, fault| {
-            call(address(input), input.len(), row, buffer.cast(), room, length, fault)
+            call(
+                address(input),
+                input.len(),
+                reading.flags(),
+                row,
+                buffer.cast(),
+                room,
+                length,
+                fault,
+            )
         })
     }
 }

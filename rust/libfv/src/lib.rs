@@ -30,6 +30,9 @@
 //! | Is a dependency expression true? | [`depex::evaluate`] |
 //! | Which blocks does a hand-off list have? | [`hobs::read`] |
 //!
+//! The functions with the ending `_with` read a volume or a stream as [`Reading`] says: also without
+//! the marks of fixed files.
+//!
 //! An input may be any slice, even an empty one. If it is rejected, the function returns
 //! [`Error::Rejected`] with the [`Fault`]. The crate keeps no state and takes no lock, so any
 //! number of threads may call at once, also over the same input. Nothing may write to an input
@@ -54,6 +57,7 @@ compile_error!("libfv is a library for 64-bit systems");
 mod call;
 mod error;
 mod guid;
+mod reading;
 mod row;
 mod types;
 
@@ -67,6 +71,7 @@ pub mod volume;
 
 pub use error::{Error, Fault, FaultKind};
 pub use guid::{Guid, ParseGuidError};
+pub use reading::Reading;
 pub use types::{file_type, section_type};
 
 use std::ffi::CStr;

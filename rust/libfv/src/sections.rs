@@ -4,7 +4,7 @@
 
 use crate::call;
 use crate::volume::{Node, NodeDigest};
-use crate::Error;
+use crate::{Error, Reading};
 use libfv_sys as sys;
 
 /// Returns a row for each section of the stream and, in the same way, for what is in groups and
@@ -28,7 +28,16 @@ use libfv_sys as sys;
 ///
 /// [`Error::Rejected`] if the bytes are not a stream of sections, or [`Error::OutOfMemory`].
 pub fn tree(sections: &[u8]) -> Result<Vec<Node>, Error> {
-    call::rows(sys::fv_sections_tree, sections)
+    tree_with(sections, Reading::AsIs)
+}
+
+/// Returns the rows of the stream, as [`tree`] does, read as `reading` says.
+///
+/// # Errors
+///
+/// The errors of [`tree`].
+pub fn tree_with(sections: &[u8], reading: Reading) -> Result<Vec<Node>, Error> {
+    call::rows_with(sys::fv_sections_tree, sections, reading)
 }
 
 /// Returns the SHA-256 digest for each row of [`tree`], in the same order. The digest of a row
@@ -41,7 +50,17 @@ pub fn tree(sections: &[u8]) -> Result<Vec<Node>, Error> {
 /// not fit in the canonical form ([`NoRoom`](crate::FaultKind::NoRoom),
 /// [`TopAlignment`](crate::FaultKind::TopAlignment)). [`Error::OutOfMemory`] if memory runs out.
 pub fn tree_digests(sections: &[u8]) -> Result<Vec<NodeDigest>, Error> {
-    call::rows(sys::fv_sections_tree_digests, sections)
+    tree_digests_with(sections, Reading::AsIs)
+}
+
+/// Returns the SHA-256 digest for each row of [`tree_with`], in the same order, as [`tree_digests`]
+/// does.
+///
+/// # Errors
+///
+/// The errors of [`tree_digests`].
+pub fn tree_digests_with(sections: &[u8], reading: Reading) -> Result<Vec<NodeDigest>, Error> {
+    call::rows_with(sys::fv_sections_tree_digests, sections, reading)
 }
 
 /// Returns the bytes of a row of [`tree`] in canonical form. `row` is the number of the row, counted
@@ -65,5 +84,14 @@ pub fn tree_digests(sections: &[u8]) -> Result<Vec<NodeDigest>, Error> {
 /// depth of such a fault counts only groups and opened volumes inside the part.
 /// [`Error::OutOfMemory`] if memory runs out.
 pub fn extract(sections: &[u8], row: usize) -> Result<Vec<u8>, Error> {
-    call::part(sys::fv_sections_extract, sections, row)
+    extract_with(sections, row, Reading::AsIs)
+}
+
+/// Returns the bytes of a row of [`tree_with`] in canonical form, as [`extract`] does.
+///
+/// # Errors
+///
+/// The errors of [`extract`].
+pub fn extract_with(sections: &[u8], row: usize, reading: Reading) -> Result<Vec<u8>, Error> {
+    call::part_with(sys::fv_sections_extract, sections, row, reading)
 }

@@ -11,7 +11,7 @@
 use crate::call::{self, address};
 use crate::error::check;
 use crate::row::{guid_or_none, kinds, narrow, range, row};
-use crate::{Error, Guid};
+use crate::{Error, Guid, Reading};
 use libfv_sys as sys;
 use std::fmt;
 use std::ops::Range;
@@ -224,7 +224,8 @@ pub fn normalise(volume: &[u8]) -> Result<Vec<u8>, Error> {
 /// In the header of each fixed file, bit 0x04 of the attributes is cleared, and 4 is added to the
 /// header checksum (modulo 256). All other bytes are as in the input, so the files of nested
 /// volumes keep their marks. The functions that read the files of a volume reject a volume with
-/// fixed files, but accept the copy. The copy must not be flashed.
+/// fixed files, but accept the copy. ([`Reading::WithoutMarks`] also takes away the marks in nested
+/// volumes.) The copy must not be flashed.
 ///
 /// ```
 /// # let (mut volume, _) = include!(concat!(env!("CARGO_MANIFEST_DIR"), "/tests/sample/volumes.rs"));
@@ -353,7 +354,28 @@ pub fn cells(bytes: &[u8]) -> Result<Vec<Cell>, Error> {
 ///
 /// [`Error::Rejected`] if the bytes are not a volume, or [`Error::OutOfMemory`].
 pub fn tree(volume: &[u8]) -> Result<Vec<Node>, Error> {
-    call::rows(sys::fv_volume_tree, volume)
+    tree_with(volume, Reading::AsIs)
+}
+
+/// Returns the tree of the volume, as [`tree`] does, read as `reading` says.
+///
+/// ```
+/// # let (mut volume, _) = include!(concat!(env!("CARGO_MANIFEST_DIR"), "/tests/sample/volumes.rs"));
+/// use fv::Reading;
+/// // The header of the file at 72: its attributes are at 19, and its header checksum is at 16.
+/// volume[72 + 19] |= 4;
+/// volume[72 + 16] = volume[72 + 16].wrapping_sub(4);
+/// let error = fv::volume::tree(&volume).unwrap_err();
+/// assert_eq!(error.fault().unwrap().kind(), fv::FaultKind::Fixed);
+/// assert_eq!(fv::volume::tree_with(&volume, Reading::WithoutMarks)?.len(), 4);
+/// # Ok::<(), fv::Error>(())
+/// ```
+///
+/// # Errors
+///
+/// The errors of [`tree`].
+pub fn tree_with(volume: &[u8], reading: Reading) -> Result<Vec<Node>, Error> {
+    call::rows_with(sys::fv_volume_tree_with, volume, reading)
 }
 
 /// Returns the SHA-256 digest for each row of [`tree`], in the same order.
@@ -378,7 +400,17 @@ pub fn tree(volume: &[u8]) -> Result<Vec<Node>, Error> {
 ///
 /// The errors of [`normalise`].
 pub fn tree_digests(volume: &[u8]) -> Result<Vec<NodeDigest>, Error> {
-    call::rows(sys::fv_volume_tree_digests, volume)
+    tree_digests_with(volume, Reading::AsIs)
+}
+
+/// Returns the SHA-256 digest for each row of [`tree_with`], in the same order, as [`tree_digests`]
+/// does.
+///
+/// # Errors
+///
+/// The errors of [`normalise`].
+pub fn tree_digests_with(volume: &[u8], reading: Reading) -> Result<Vec<NodeDigest>, Error> {
+    call::rows_with(sys::fv_volume_tree_digests_with, volume, reading)
 }
 
 /// Returns the bytes of a row of [`tree`] as the canonical image has them. `row` is the number of
@@ -405,7 +437,16 @@ pub fn tree_digests(volume: &[u8]) -> Result<Vec<NodeDigest>, Error> {
 /// depth of such a fault counts only groups and opened volumes inside the part.
 /// [`Error::OutOfMemory`] if memory runs out.
 pub fn extract(volume: &[u8], row: usize) -> Result<Vec<u8>, Error> {
-    call::part(sys::fv_volume_extract, volume, row)
+    extract_with(volume, row, Reading::AsIs)
+}
+
+/// Returns the bytes of a row of [`tree_with`], as [`extract`] does.
+///
+/// # Errors
+///
+/// The errors of [`extract`].
+pub fn extract_with(volume: &[u8], row: usize, reading: Reading) -> Result<Vec<u8>, Error> {
+    call::part_with(sys::fv_volume_extract_with, volume, row, reading)
 }
 
 #[cfg(test)]

@@ -30,7 +30,12 @@ enum {
     SECOND_PART,     /* the last byte of the part of the second row of a stream is wrong */
     LATE_DATA,       /* the data of a compression section of CompressionType 0 are one byte later */
     LONGER_LIMIT,    /* section_open opens contents that are one byte longer than the limit */
-    LAST_CONTENT     /* the last byte of contents that are stored as they are is wrong */
+    LAST_CONTENT,    /* the last byte of contents that are stored as they are is wrong */
+    OUTER_MARKS,     /* FV_WITHOUT_MARKS takes away only the marks of the volume's own files */
+    KEPT_MARK,       /* with FV_WITHOUT_MARKS the last row has the attribute of a fixed file, if it was one */
+    MARKED_DIGEST,   /* tree_digests_with ignores its flags */
+    MARKED_PART,     /* extract_with ignores its flags for the first row */
+    MARKED_STREAM    /* sections_tree ignores its flags */
 };
 
 #define WRAPS(call) __typeof__(call) __wrap_##call, __real_##call
@@ -42,6 +47,9 @@ WRAPS(fv_image_check);
 WRAPS(fv_volume_tree);
 WRAPS(fv_volume_tree_digests);
 WRAPS(fv_volume_extract);
+WRAPS(fv_volume_tree_with);
+WRAPS(fv_volume_tree_digests_with);
+WRAPS(fv_volume_extract_with);
 WRAPS(fv_section_way);
 WRAPS(fv_section_open);
 WRAPS(fv_sections_tree);
@@ -168,6 +176,38 @@ fv_result __wrap_fv_volume_extract(const void *volume, size_t size, size_t row, 
     return result;
 }
 
+fv_result __wrap_fv_volume_tree_with(const void *volume, size_t size, uint32_t flags, fv_node *rows, size_t room,
+                                     size_t *count, fv_fault *fault)
+{
+    static uint8_t copy[1 << 20];
+    if (planted() == OUTER_MARKS && flags && size <= sizeof copy &&
+        __real_fv_volume_unfix(volume, size, copy, size, NULL) == FV_OK)
+        return __real_fv_volume_tree_with(copy, size, 0, rows, room, count, fault);
+    fv_result result = __real_fv_volume_tree_with(volume, size, flags, rows, room, count, fault);
+    if (planted() != KEPT_MARK || !flags || result) return result;
+    for (size_t i = *count; i--;) {
+        if (rows[i].kind != FV_NODE_FILE) continue;
+        const uint8_t *header = (const uint8_t *)volume + rows[i].offset - rows[i].header_length;
+        rows[i].attributes |= header[ATTRIBUTES] & FIXED;
+        break;
+    }
+    return result;
+}
+
+fv_result __wrap_fv_volume_tree_digests_with(const void *volume, size_t size, uint32_t flags, fv_sha256 *rows,
+                                             size_t room, size_t *count, fv_fault *fault)
+{
+    if (planted() == MARKED_DIGEST) flags = 0;
+    return __real_fv_volume_tree_digests_with(volume, size, flags, rows, room, count, fault);
+}
+
+fv_result __wrap_fv_volume_extract_with(const void *volume, size_t size, uint32_t flags, size_t row, void *buffer,
+                                        size_t buffer_size, size_t *length, fv_fault *fault)
+{
+    if (planted() == MARKED_PART && !row) flags = 0;
+    return __real_fv_volume_extract_with(volume, size, flags, row, buffer, buffer_size, length, fault);
+}
+
 fv_result __wrap_fv_section_way(const void *section, size_t size, fv_way *way, fv_fault *fault)
 {
     fv_result result = __real_fv_section_way(section, size, way, fault);
@@ -186,26 +226,27 @@ fv_result __wrap_fv_section_open(const void *section, size_t size, size_t limit,
     return result;
 }
 
-fv_result __wrap_fv_sections_tree(const void *sections, size_t size, fv_node *rows, size_t room, size_t *count,
-                                  fv_fault *fault)
+fv_result __wrap_fv_sections_tree(const void *sections, size_t size, uint32_t flags, fv_node *rows, size_t room,
+                                  size_t *count, fv_fault *fault)
 {
-    fv_result result = __real_fv_sections_tree(sections, size, rows, room, count, fault);
+    if (planted() == MARKED_STREAM) flags = 0;
+    fv_result result = __real_fv_sections_tree(sections, size, flags, rows, room, count, fault);
     if (planted() == FIRST_PARENT && !result && *count > 2 && !rows[2].depth) rows[2].parent = 0;
     return result;
 }
 
-fv_result __wrap_fv_sections_tree_digests(const void *sections, size_t size, fv_sha256 *rows, size_t room, size_t *count,
-                                          fv_fault *fault)
+fv_result __wrap_fv_sections_tree_digests(const void *sections, size_t size, uint32_t flags, fv_sha256 *rows,
+                                          size_t room, size_t *count, fv_fault *fault)
 {
-    fv_result result = __real_fv_sections_tree_digests(sections, size, rows, room, count, fault);
+    fv_result result = __real_fv_sections_tree_digests(sections, size, flags, rows, room, count, fault);
     if (planted() == THIRD_DIGEST && !result && *count > 2 && rows[2].bytes[0]) rows[2].bytes[31] ^= 1;
     return result;
 }
 
-fv_result __wrap_fv_sections_extract(const void *sections, size_t size, size_t row, void *buffer, size_t buffer_size,
-                                     size_t *length, fv_fault *fault)
+fv_result __wrap_fv_sections_extract(const void *sections, size_t size, uint32_t flags, size_t row, void *buffer,
+                                     size_t buffer_size, size_t *length, fv_fault *fault)
 {
-    fv_result result = __real_fv_sections_extract(sections, size, row, buffer, buffer_size, length, fault);
+    fv_result result = __real_fv_sections_extract(sections, size, flags, row, buffer, buffer_size, length, fault);
     uint8_t *part = buffer;
     if (planted() == SECOND_PART && !result && row == 1 && *length) part[*length - 1] ^= 1;
     return result;

@@ -14,12 +14,19 @@ static fv_sha256 digests[MOST_STREAM_ROWS];
 static uint8_t part[MOST_BUFFER], other[MOST_BUFFER];
 static size_t row_of_call;
 
-ROWS_CALL(tree, fv_sections_tree)
-ROWS_CALL(tree_digests, fv_sections_tree_digests)
+static fv_result tree(const uint8_t *bytes, size_t len, void *rows, size_t room, size_t *count, fv_fault *fault)
+{
+    return fv_sections_tree(bytes, len, 0, rows, room, count, fault);
+}
+
+static fv_result tree_digests(const uint8_t *bytes, size_t len, void *rows, size_t room, size_t *count, fv_fault *fault)
+{
+    return fv_sections_tree_digests(bytes, len, 0, rows, room, count, fault);
+}
 
 static fv_result extract(const uint8_t *bytes, size_t len, void *buffer, size_t room, size_t *length, fv_fault *fault)
 {
-    return fv_sections_extract(bytes, len, row_of_call, buffer, room, length, fault);
+    return fv_sections_extract(bytes, len, 0, row_of_call, buffer, room, length, fault);
 }
 
 /* Returns the rows of a call over a stream. */
@@ -88,7 +95,7 @@ static void check_no_row(const uint8_t *bytes, size_t len, size_t row)
 {
     size_t length = UNTOUCHED_64;
     fv_fault fault = unset_fault;
-    fv_result result = fv_sections_extract(bytes, len, row, no_buffer(), 0, &length, &fault);
+    fv_result result = fv_sections_extract(bytes, len, 0, row, no_buffer(), 0, &length, &fault);
     check_no_block_is_kept("sections_extract");
     check_plain("sections_extract", result, FV_NOT_FOUND, &fault);
     CHECK(length == UNTOUCHED_64, "sections_extract has changed the length");

@@ -148,6 +148,7 @@ void try_volume(const uint8_t *bytes, size_t len, const uint8_t *parameters)
     try_digests(&volume);
     try_unfix(&volume);
     try_streams(&volume);
+    try_marks(&volume);
     try_compare(&volume);
     if (volume.image) try_image_of(&volume);
 }

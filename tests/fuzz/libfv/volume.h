@@ -40,5 +40,6 @@ void try_parts(const struct volume *volume);
 void try_digests(const struct volume *volume);
 void try_unfix(const struct volume *volume);
 void try_streams(const struct volume *volume);
+void try_marks(const struct volume *volume);
 
 #endif

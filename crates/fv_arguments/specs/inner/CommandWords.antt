@@ -1,5 +1,5 @@
 -- The arguments of one command.
-use Rattle.std.specs.Prelude.{◌≡◌, ℕ, List, [], Result, Ok, Err, codes, if◌then◌else◌}
+use Rattle.std.specs.Prelude.{◌≡◌, ℕ, Bool, true, false, List, [], Option, Some, None, Result, Ok, Err, codes, if◌then◌else◌}
 use Rattle.std.specs.Str.{bytes_eq}
 use Rattle.clap.specs.Words.{App, found_of, rows_of}
 use Rattle.clap.specs.declared.parser.matches.ArgMatches.{ArgMatches}
@@ -8,6 +8,8 @@ use Rattle.fv_arguments.specs.Options.{open_app, volume_app}
 use Rattle.fv_arguments.specs.CommandLines.{AsksBy, HasTexts, command_name}
 use Rattle.fv_plan.specs.declared.plan.Command.{Command}
 use Rattle.fv_plan.specs.declared.plan.Plan.{Plan}
+use Rattle.fv_plan.specs.declared.plan.Task.{Task}
+use Rattle.fv_plan.specs.declared.plan.Task.TheVariants.{List as Listing, ListSums, ListOpened}
 use Rattle.fv_arguments.specs.declared.words.WordFault.{WordFault}
 use Rattle.fv_arguments.specs.declared.words.WordFault.TheVariants.{Words}
 
@@ -26,6 +28,13 @@ app_named name =
     else (if bytes_eq name (codes "list") then list_app
     else (if bytes_eq name (codes "open") then open_app
     else (if bytes_eq name (codes "scan") then one_input_app else volume_app)))))))
+
+-- the task of `list`, by whether `--sums` and `--open` are given: there is none if both are given
+abbrev pub list_task : (sums opened : Bool) → Option Task
+list_task false false = Some Listing
+list_task true false = Some ListSums
+list_task false true = Some ListOpened
+list_task true true = None
 
 -- the parser accepted the arguments of a command, and m holds the values that it found in them
 pub record IsParsed (app : App) (rest : List (List ℕ)) (m : ArgMatches) : Type 0 where

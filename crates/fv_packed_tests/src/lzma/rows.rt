@@ -1,8 +1,8 @@
-//! Streams as text, in tables. A line is a name, a colon, the limit of the call, the words of the
+//! Streams as text, in a table. A line is a name, a colon, the limit of the call, the words of the
 //! stream, an arrow and the result. The words have the meaning that `spelled_bytes` gives them.
 //!
 //! The streams with RECORDS are from the LZMA SDK 9.22 (`lzma_alone`), and the others from liblzma
-//! 5.4.1. The offsets of the faults follow from the LZMA specification. Each table is a single text
+//! 5.4.1. The offsets of the faults follow from the LZMA specification. The table is a single text
 //! that only one function names: a function that names many texts is far slower to prove.
 
 /// Returns the names: some records, bytes that need each kind of packet (a literal, a literal after a
@@ -25,9 +25,9 @@ pub(super) fn names() -> &'static str {
     "
 }
 
-/// Returns streams of the records, with each value of lc, lp and pb, by turns with a length and with
-/// an end marker.
-pub(super) fn properties() -> &'static str {
+/// Returns streams, each with what it gives or with its fault. The first ones give the records, with
+/// each value of lc, lp and pb, by turns with a length and with an end marker.
+pub(super) fn streams() -> &'static str {
     "\
     lc 0, lp 0, pb 0: 71 000000800047 00*9 \
         61fc46097fbd9ca6657dc4a78aef9e6b2f20aabe72f9ebfc5356f3eb01ec261dcbac2ef58d672ddf38853d96\
@@ -65,12 +65,6 @@ pub(super) fn properties() -> &'static str {
     lc 8, lp 4, pb 4: 71 e000008000 ff*8 \
         0000610479e9c82ebc24f5e24dbc29218e66dd28a382ea49384ce8396515109db2a912fd59ad2e3a940c11f3\
         f98e49bad66d27888d78f105633c290fc4402ab78caf509a63fbffff61380000 -> RECORDS\n\
-    "
-}
-
-/// Returns streams with what they give.
-pub(super) fn accepted() -> &'static str {
-    "\
     each kind of packet: 266 5d001000000a01000000000000 PACKETS -> KINDS\n\
     dictionary of 0 bytes: 266 5d000000000a01000000000000 PACKETS -> KINDS\n\
     no bytes, unknown length: 0 5d00100000 ff*8 0083fffbffffc0000000 ->\n\
@@ -86,12 +80,6 @@ pub(super) fn accepted() -> &'static str {
         fd3feb3c9250b7974a9b528b69636321a461b55ef55b7bea 00*4060 01fd3feb3c9250b7974a9b52\n\
     bytes after the length: 1 5d0000800001 00*8 307ffc0000ff00ff -> 61\n\
     bytes after the marker: 1 5d00100000 ff*8 0030c1fbffffffe0000000ff00ff -> 61\n\
-    "
-}
-
-/// Returns streams with their faults.
-pub(super) fn rejected() -> &'static str {
-    "\
     no bytes at all: 9 -> Short 0\n\
     header is cut off: 266 5d001000000a010000000000 -> Short 12\n\
     header without data: 266 5d001000000a01000000000000 -> Short 13\n\

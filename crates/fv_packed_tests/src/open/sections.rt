@@ -1,30 +1,30 @@
 //! What sections contain, what their headers say, and the faults of other bytes.
 
-use super::rows::{heads, opened, rejected};
-use crate::spelling::spelled_bytes;
-use fv_open::{open, way_of};
+use super::rows::{heads, sections};
+use crate::spelling::{is_spelled, row_of, spelled_bytes};
+use fv_open::{OpenFault, Opened, open, way_of};
 use std::alloc::Global;
 
-// Returns the name, the words of the section and the result of a line, and the number before the words.
-fn row_of(line: &str) -> Option<(usize, &str, &str)> {
-    let (_, rest) = line.split_once(": ")?;
-    let (limit, rest) = rest.split_once(' ')?;
-    let (words, result) = rest.split_once("->")?;
-    Some((limit.parse().ok()?, words, result.trim()))
+// Returns whether a result is the way and the contents of an opened section.
+fn is_opened(alloc: Global, wanted: &str, found: &Opened<'_>) -> Option<bool> {
+    let (way, contents) = wanted.split_once(' ').unwrap_or((wanted, ""));
+    let name = format!(in alloc; "{:?}", found.way).ok()?;
+    Some(name.as_str() == way && is_spelled(alloc, "", contents, &found.contents)?)
 }
 
-// Returns whether the section of a line has the contents of the line, by the way of the line.
-fn has_its_contents(alloc: Global, line: &str) -> Option<bool> {
+// Returns whether a result is the fault of a section.
+fn is_fault(alloc: Global, wanted: &str, fault: &OpenFault) -> Option<bool> {
+    let text = format!(in alloc; "{:?} {}", fault.kind, fault.offset).ok()?;
+    Some(text.as_str() == wanted)
+}
+
+// Returns whether the bytes of a line give the result of the line.
+fn gives_its_result(alloc: Global, line: &str) -> Option<bool> {
     let (limit, words, result) = row_of(line)?;
     let section = spelled_bytes(alloc, "", words)?;
-    let (way, contents) = result.split_once(' ').unwrap_or((result, ""));
-    let wanted = spelled_bytes(alloc, "", contents)?;
     match open(alloc, &section, limit) {
-        Ok(found) => {
-            let name = format!(in alloc; "{:?}", found.way).ok()?;
-            Some(name.as_str() == way && found.contents.as_slice() == wanted.as_slice())
-        }
-        Err(_) => Some(false),
+        Ok(found) => is_opened(alloc, result, &found),
+        Err(fault) => is_fault(alloc, result, &fault),
     }
 }
 
@@ -42,23 +42,10 @@ fn has_its_head(alloc: Global, line: &str) -> Option<bool> {
     }
 }
 
-// Returns whether the bytes of a line have the fault that the line names.
-fn has_its_fault(alloc: Global, line: &str) -> Option<bool> {
-    let (limit, words, result) = row_of(line)?;
-    let section = spelled_bytes(alloc, "", words)?;
-    match open(alloc, &section, limit) {
-        Ok(_) => Some(false),
-        Err(fault) => {
-            let text = format!(in alloc; "{:?} {}", fault.kind, fault.offset).ok()?;
-            Some(text.as_str() == result)
-        }
-    }
-}
-
 #[test]
-fn sections_have_their_contents(rt: HostRuntime) {
-    for line in opened().lines() {
-        assert!(rt; has_its_contents(rt.alloc(), line) == Some(true), "{line}");
+fn bytes_give_their_results(rt: HostRuntime) {
+    for line in sections().lines() {
+        assert!(rt; gives_its_result(rt.alloc(), line) == Some(true), "{line}");
     }
 }
 
@@ -66,13 +53,6 @@ fn sections_have_their_contents(rt: HostRuntime) {
 fn headers_say_the_way_and_the_length(rt: HostRuntime) {
     for line in heads().lines() {
         assert!(rt; has_its_head(rt.alloc(), line) == Some(true), "{line}");
-    }
-}
-
-#[test]
-fn faults_of_sections_have_their_kinds_and_offsets(rt: HostRuntime) {
-    for line in rejected().lines() {
-        assert!(rt; has_its_fault(rt.alloc(), line) == Some(true), "{line}");
     }
 }
 

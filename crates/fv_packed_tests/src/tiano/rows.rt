@@ -1,10 +1,10 @@
-//! Compressed data as text, in tables. A line is a form (uefi or tiano), a name, a colon, the limit of
+//! Compressed data as text, in a table. A line is a form (uefi or tiano), a name, a colon, the limit of
 //! the call, the words of the data, an arrow and the result. The words have the meaning that
 //! `spelled_bytes` gives them.
 //!
 //! EDK II 2022.11 (`EfiCompress` and `TianoCompress` of its BaseTools) has made the data up to the
 //! words. The others are spelled from the bits of their blocks, and the offsets of the faults follow
-//! from these bits. Each table is a single text that only one function names.
+//! from these bits. The table is a single text that only one function names.
 
 /// Returns the names: some words.
 pub(super) fn names() -> &'static str {
@@ -14,8 +14,8 @@ pub(super) fn names() -> &'static str {
     "
 }
 
-/// Returns data that are accepted, with their contents.
-pub(super) fn accepted() -> &'static str {
+/// Returns data, each with its contents or with the kind and the offset of its first fault.
+pub(super) fn data() -> &'static str {
     "\
     uefi no bytes: 0 08000000 00000000 0000000000000000 -> \n\
     uefi one byte: 1 08000000 01000000 0001000006100000 -> 61\n\
@@ -41,12 +41,6 @@ pub(super) fn accepted() -> &'static str {
     tiano 65,536 symbols: 3 07000000 03000000 00000000061000 -> 616161\n\
     uefi a match of 3, cut: 2 0d000000 02000000 00010000061000001000010000 -> 6161\n\
     uefi a match of 258: 259 0d000000 03010000 0001000006100000100001ff00 -> 61*259\n\
-    "
-}
-
-/// Returns data that are rejected, with the kind and the offset of their first fault.
-pub(super) fn rejected() -> &'static str {
-    "\
     uefi fewer bytes than the header has: 9 00000000 000000 -> Short 7\n\
     uefi fewer bytes than the header says: 9 09000000 01000000 0001000006100000 -> Short 16\n\
     uefi fewer bytes than the header says, and a length above the limit: 0 09000000 01000000 \

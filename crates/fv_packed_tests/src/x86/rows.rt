@@ -1,11 +1,12 @@
-//! Bytes and what the filter makes of them, in tables. A line is a name, a colon, the words of the
+//! Bytes and what the filter makes of them, in a table. A line is a name, a colon, the words of the
 //! bytes, an arrow, and the words of the result. The words have the meaning that `spelled_bytes` gives
 //! them.
 //!
-//! The results are those of `x86_Convert` in Bra86.c of EDK II, and of liblzma 5.4.1, which agree. Each
+//! The results are those of `x86_Convert` in Bra86.c of EDK II, and of liblzma 5.4.1, which agree. The
 //! table is a single text that only one function names.
 
-/// Returns bytes that need each case of the filter.
+/// Returns bytes that need each case of the filter, each with the result, and compiled code as the
+/// encoder of Bra86.c writes it, with the code itself.
 pub(super) fn cases() -> &'static str {
     "\
     no bytes: ->\n\
@@ -70,12 +71,6 @@ pub(super) fn cases() -> &'static str {
     mixed bytes 14: 0021e8ffffffe9ffffff00e9b5 -> 0021e8ffffffe9f4ffff00e9b5\n\
     call after 65,536 zeros: 00*65536 e800000100 -> 00*65536 e8fbffffff\n\
     call before 65,536 zeros: e8000001 00*65537 -> e8fbff 00*65538\n\
-    "
-}
-
-/// Returns compiled code as the encoder of Bra86.c writes it, and the code itself.
-pub(super) fn code() -> &'static str {
-    "\
     code: 554889e5534883ec28897ddcc745e813000000c745ec00000000eb298b45ec83c00189c7e85600000089c\
         38b45ec89c7e85600000089de89c7e8910000000145e88345ec018b45ec3b45dc7ccf8b45e8488b5df8c9c3\
         554889e5534883ec18897dec837dec017e208b45ec83e80189c7e85600000089c38b45ec83e80289c7e8560\

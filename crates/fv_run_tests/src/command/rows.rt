@@ -46,6 +46,9 @@ fn commands() -> &'static str {
     open: fv open\n\
     open 0.1: fv open --section 0.1\n\
     open 0.0: fv open --section 0.0\n\
+    list-open: fv list --open\n\
+    extract-open 0b 19 1: fv extract --open --name 0b0b0b0b-0b0b-0b0b-0b0b-0b0b0b0b0b0b --section 19\n\
+    extract-open 0b - 1: fv extract --open --name 0b0b0b0b-0b0b-0b0b-0b0b-0b0b0b0b0b0b\n\
     check: fv check\n\
     check-all: fv check --all\n\
     compare: fv compare first second\n\

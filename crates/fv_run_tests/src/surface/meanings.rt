@@ -100,6 +100,7 @@ fn name_results(fault: WordFault, status: Status) {
         Status::Done
         | Status::Different
         | Status::Faulty
+        | Status::Incomplete
         | Status::Refused
         | Status::WrongArguments => {}
     }

@@ -1,7 +1,9 @@
-use Rattle.fv_base.proofs.Laws.{codes, refl, err_is}
+use Rattle.fv_base.proofs.Laws.{◌∙◌, codes, refl, sym, err_is}
 use Rattle.fv_arguments.proofs.ArgumentReadLemmas.{text_answer}
 use Rattle.fv_arguments.proofs.RefusalLemmas.{no_input, right_part}
+use Rattle.fv_arguments.proofs.TaskLemmas.{by_flag}
 use Rattle.fv_arguments.specs.Words.{extract_app}
+use Rattle.fv_plan.specs.declared.plan.Task.TheVariants.{Extract, ExtractOpened}
 use Rattle.fv_arguments.proofs.options.extract.Goals as goal
 
 pub returns-in_err-part : goal.returns-in_err-part
@@ -17,4 +19,7 @@ returns-in_err-at c = rw (err_is c.from_residual-in_err-at.ensures.1) (no_input 
 pub returns : goal.returns
 returns c = λ rest r.
     let part = simp (c.get_str.ensures, c.get_str-section.ensures, c.get_str-instance.ensures, text_answer r) at c.in_ok-part.ensures in
-    (refl, (c.in_ok-at.ensures extract_app rest r, part))
+    let opened = c.is_given-opened.ensures extract_app rest r in
+    let input = c.in_ok-at.ensures extract_app rest r in
+    by_flag (codes "extract") rest _ _ _ (ExtractOpened _) (Extract _) _ c.task_by-task.ensures
+    (λ on. (refl, (sym opened ∙ on, (input, part)))) (λ off. (refl, (sym opened ∙ off, (input, part))))

@@ -1,7 +1,7 @@
 use Rattle.std.proofs.Common.{List, ◌++◌}
 use Rattle.fv_canon.specs.declared.image_digests.ImageDigests.{ImageDigests}
 use Rattle.fv_canon.specs.inner.Digests.{Covers}
-use Rattle.fv_c.proofs.WalkRows.{AreRowDigests}
+use Rattle.fv_c.specs.ReportedDigests.{AreDigests}
 use Rattle.fv_c.specs.declared.canonical.FvSha256.{FvSha256}
 use Rattle.fv_c.proofs.tree_digests.walk_digests.Given as goal
 
@@ -12,4 +12,4 @@ invariant-loop-row l =
     goal.iterator-loop-row.can_next l.row-iterator
     × goal.iterator-loop-row.is_finite l.row-iterator
     × Covers (λ (d : ImageDigests). d.starts.now) l.digests l.row-iterator
-    × ((others : List FvSha256) → AreRowDigests others l.row-iterator → AreRowDigests (l.found.items ++ others) l.initial.row-iterator)
+    × ((others : List FvSha256) → AreDigests others l.row-iterator → AreDigests (l.found.items ++ others) l.initial.row-iterator)

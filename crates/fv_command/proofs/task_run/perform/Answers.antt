@@ -34,6 +34,9 @@ returns-in-List g c = rw c.in-List.is (c.list.ensures c.args.hex)
 pub returns-in-ListSums : goal.returns-in-ListSums
 returns-in-ListSums g c = rw c.in-ListSums.is (c.list_sums.ensures c.args.hex)
 
+pub returns-in-ListOpened : goal.returns-in-ListOpened
+returns-in-ListOpened g c = rw c.in-ListOpened.is (c.list_opened.ensures c.args.hex)
+
 pub returns-in-Check : goal.returns-in-Check
 returns-in-Check g c = rw c.in-Check.is (c.put_check.ensures c.args.hex)
 

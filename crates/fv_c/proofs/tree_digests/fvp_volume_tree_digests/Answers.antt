@@ -1,8 +1,0 @@
-use Rattle.std.proofs.Common.{◌∙◌, ap}
-use Rattle.fv_base.specs.Words.{fault_number}
-use Rattle.fv_base.specs.declared.fault.Fault.{Fault}
-use Rattle.fv_c.proofs.tree_digests.fvp_volume_tree_digests.Goals as goal
-
-pub returns-in-Err-clause-fits : goal.returns-in-Err-clause-fits
-returns-in-Err-clause-fits c = λ image to _ _.
-    c.set_fault.ensures.number ∙ ap (λ (f : Fault). fault_number f.kind) (c.in-Err.ensures.fits image to)

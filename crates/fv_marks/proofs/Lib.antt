@@ -1,0 +1,14 @@
+pub mod AcceptedLemmas
+pub mod AgainLemmas
+pub mod CellChangeLemmas
+pub mod CellStepLemmas
+pub mod FrameLemmas
+pub mod MarkLemmas
+pub mod NeverFixedLemmas
+pub mod OneResultLemmas
+pub mod OwnMarkLemmas
+pub mod PartLemmas
+pub mod StreamChangeLemmas
+pub mod SumLemmas
+pub mod TreeStepLemmas
+pub mod VolumeChangeLemmas

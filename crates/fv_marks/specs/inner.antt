@@ -1,0 +1,2 @@
+-- Definitions that only private clauses use. A reviewer need not read them.
+pub mod MarkSteps

@@ -1,0 +1,5 @@
+mod ForestLaws
+mod GrowthLaws
+mod InsideLaws
+mod PassLaws
+mod StartLaws
