@@ -182,7 +182,7 @@ def read_header(span: Span) -> Header:
 
 @dataclass(frozen=True)
 class Cell:
-    """A part of the body of a volume. size does not include the filler; the last fields are those of a file."""
+    """A part of the body of a volume. size does not include the filler; the last fields are for a file."""
 
     kind: str
     offset: int

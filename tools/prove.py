@@ -47,7 +47,7 @@ BUILDS = {"fv_tool": "./fvtool < crates/fv_tool/stdin", "fv_c": "libfv/build"}
 SECONDS = {
     "fv_base": 60, "fv_head": 100, "fv_file": 80, "fv_section": 45, "fv_depex": 60, "fv_hob": 75, "fv_text": 50, "fv_names": 45,
     "fv_placement": 35, "fv_sinks": 20, "fv_flash": 15, "fv_packed": 30, "fv_huffman": 35, "fv_lzma": 190, "fv_tiano": 110,
-    "fv_x86": 20, "fv_crc32": 10, "fv_open": 110, "fv_tree": 215, "fv_survey": 140, "fv_marks": 110, "fv_rows": 35,
+    "fv_x86": 20, "fv_crc32": 10, "fv_open": 110, "fv_tree": 215, "fv_survey": 220, "fv_survey_lines": 60, "fv_marks": 110, "fv_rows": 35,
     "fv_budget": 15, "fv_compare": 45, "fv_lines": 95, "fv_opened": 65, "fv_canon": 190, "fv_plan": 20, "fv_arguments": 100,
     "fv_extract": 60, "fv_command": 200, "fv_tool": 110, "fv_c": 200,
 }  # fmt: skip

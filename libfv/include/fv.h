@@ -262,11 +262,11 @@ enum {
 /* The phase in which a dependency expression is evaluated. FV_PHASE_DXE is for DXE and for MM. */
 enum { FV_PHASE_PEI = 0, FV_PHASE_DXE = 1 };
 
-/* The flags of the calls fv_volume_*_with and fv_sections_*; 0 is no flag. With FV_WITHOUT_MARKS a call makes a copy of
- * its input, takes the marks of fixed files away as fv_volume_unfix does, but also in the volumes in sections, and reads
- * this copy. So fault 15 does not occur. Nothing is moved: offsets are those of the input. The attributes of a file are
- * without bit 0x04, and digests and extracted bytes are those of the copy. The extracted bytes are for reading,
- * comparing and archiving, and must not be flashed. */
+/* The flags of the calls fv_volume_*_with and fv_sections_*; 0 sets no flag. With FV_WITHOUT_MARKS a call makes a copy
+ * of its input, takes the marks of fixed files away as fv_volume_unfix does, but also in the volumes in sections, and
+ * reads this copy. So fault 15 does not occur. Nothing is moved: an offset in the copy is the same offset in the input.
+ * The attributes of a file are without bit 0x04. Digests cover bytes of the copy, and extracted bytes come from the
+ * copy. The extracted bytes are for reading, comparing and archiving, and must not be flashed. */
 enum { FV_WITHOUT_MARKS = 1 };
 
 /* The value of a dependency expression. BEFORE and AFTER only say in which order drivers run, and have no truth value:

@@ -26,7 +26,8 @@ FIRST_CONTENTS, EXPANSION = 1 << 20, 16
 # A view of fewer bytes is copied, because this takes less time than to get its address.
 LEAST_HELD = 4096
 # A call writes its results to new bytes objects, which take less time to make than objects of ctypes. These are the
-# results that are not rows: a number of 64 bits, a number of 32 bits, a comparison, and those of packed sections.
+# results that are not rows: a number of 64 bits, a number of 32 bits, a comparison, and the results for packed
+# sections.
 _SIZE, _U32, _COMPARISON = struct.Struct("=Q"), struct.Struct("=I"), struct.Struct(native.COMPARISON_FORMAT)
 _WAY, _CONTENTS = struct.Struct(native.WAY_FORMAT), struct.Struct(native.CONTENTS_FORMAT)
 _TRUE = _U32.pack(1)

@@ -166,7 +166,7 @@ class _Walk:
 
     def sheets(self, volumes: Iterable[Volume], where: str, section: Section | None, digests: Digests) -> list[Sheet]:
         """Returns the sheets of the volumes in one image or in one section, and looks for parts that are not read also
-        in the volumes above the limit. `digests` are those of a volume around them."""
+        in the volumes above the limit. `digests` are the digests of a volume around them."""
         found = [Sheet(it, self._name(it, number), number, section) for number, it in enumerate(volumes)]
         drawn = found[: self._left]
         self._left -= len(drawn)

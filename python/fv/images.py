@@ -290,7 +290,7 @@ def stored_files(volume: Volume) -> Iterator[File]:
 def _files(
     sections: Iterable[Section], volumes: Iterable[Volume], with_opened: bool
 ) -> Iterator[tuple[Volume, File]]:
-    """Yields the files inside sections, and then those of volumes, each before the files inside it."""
+    """Yields the files inside sections, and then the files of volumes, each before the files inside it."""
     for section in leaves(sections):
         if section.volume:
             yield from _files([], [section.volume], with_opened)

@@ -336,7 +336,7 @@ def _asides(old: Volume, new: Volume, within: list[str]) -> list[Aside]:
 
 
 def _only_in(one: list[Unread], two: list[Unread]) -> list[Unread]:
-    """Returns the bytes of a list without those of another list."""
+    """Returns the bytes of a list without the bytes of another list."""
     others = Counter((it.what, it.body) for it in two)
     found = []
     for it in one:

@@ -23,7 +23,7 @@ def digest(name: str | Path) -> str:
 
 @needs_library
 class Archive(ImageCase):
-    """What is stored, and what is found again."""
+    """Images that are stored, and found again."""
 
     def stored(self, image: str) -> str:
         """Returns the digest of the canonical image of a file."""

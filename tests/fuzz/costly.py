@@ -332,7 +332,7 @@ OPENED: Inputs = {
     "tiano_matches": lambda *_: guided(making.TIANO, no_bits(MOST_OPENED, 5, True)),
     "tiano_bomb": lambda *_: guided(making.TIANO, no_bits(MOST_OPENED + 1, 5, True)),
     "tiano_codes": lambda size, _: guided(making.TIANO, many_codes(size, 5)),
-    # Data that are no sections when they are decoded in the form of the UEFI specification, so that Tiano's is tried
+    # Data that are not sections when they are decoded in the form of the UEFI specification, so that Tiano's is tried
     "uefi_tried": lambda *_: compression(no_bits(MOST_OPENED, 4, True), 0, 1),
     "checked_zeros": lambda size, _: making.checked(bytes(size)),
 }

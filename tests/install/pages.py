@@ -13,7 +13,7 @@ from pathlib import Path
 from tests.checks import ROOT, read
 
 LINK = re.compile(r"\[[^]]+\]\(([^)#]*)(?:#([^)]*))?\)")
-SAID = "are those of the source archive"
+SAID = "are paths in the source archive"
 # A name below the folders of the installation, and a name that a file of this repository could have.
 BELOW = re.compile(r"(?<![\w.])/[\w./ -]*/share/(?:doc/)?(?:fvtool|libfv)\b[\w./-]*")
 NAMED = re.compile(r"(?<![\w/.-])(?:\.ci|crates|docs|examples|libfv|man|python|recipes|rust|tests|tools)/[\w./-]*\w")

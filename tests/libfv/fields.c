@@ -88,8 +88,8 @@ static void try_stream(void)
     make_both();
 }
 
-/* Checks a volume whose file is marked as fixed: with the flag, the rows, the digests and the parts are those of the
- * volume without the mark. */
+/* Checks a volume whose file is marked as fixed: with the flag, the rows, the digests and the parts are the same as in
+ * the volume without the mark. */
 static void try_marks(void)
 {
     volume[FILE_AT + 19] |= 4;

@@ -124,7 +124,7 @@ class Commands(MemoryCase):
 
     def test_messages(self) -> None:
         """A message follows the line. Each allocation that is refused before the line is reported in its place. The
-        later allocations are those of the message, and do not change the line or the status."""
+        later allocations are made for the message, and do not change the line or the status."""
         for status, line, *words in ((3, "wrong words", "neither"), (2, "fault 8 at 128", "check", "two")):
             wanted = 2, "fault 24 at 0\n"
             for at in itertools.count(1):

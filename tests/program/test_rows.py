@@ -417,7 +417,7 @@ def row_cases() -> Iterator[tuple[str, Iterator[Run]]]:
 
 
 def load_tests(loader: unittest.TestLoader, _: unittest.TestSuite, __: object) -> unittest.TestSuite:
-    """Returns the tests of this module: those of Tables, and of all rows if the program is built."""
+    """Returns the tests of this module: the tests of Tables, and a test of each row if the program is built."""
     found = loader.loadTestsFromTestCase(Tables)
     rows_of = (RowCase("test_runs", name, runs) for name, runs in row_cases())
     found.addTests(rows_of if PROGRAM.exists() else [RowCase()])

@@ -253,7 +253,7 @@ COMMANDS: dict[str, Callable[[bytes], Said]] = {
     "list --open": lambda data: (0, text(opened(data).lines)),
     "open": lambda data: (0, fv.section_open(data).contents),
 }
-# What comes before the words of a fault, for commands whose faults are not those of a volume.
+# What comes before the words of a fault, for commands whose faults are not faults of a volume.
 FAULT_NAMES = {"hobs": "hob ", "open": "section "}
 # The commands that write bytes, or digits if they have the option --hex.
 OF_BYTES = ("normalise", "unfix", "extract", "open")

@@ -62,8 +62,8 @@ COMMANDS = {
 
 
 def lines_of(command: str, data: bytes) -> list[Line]:
-    """Returns the lines of a command for an image: those of each volume or its fault, or the fault of an image without
-    volumes."""
+    """Returns the lines of a command for an image: the lines of each volume or its fault, or the fault of an image
+    without volumes."""
     found: list[Line] = []
     places = [(it.offset, data[it.offset : it.offset + it.length]) for it in fv.image_scan(data)] or [(0, data)]
     for at, volume in places:

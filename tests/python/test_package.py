@@ -73,7 +73,7 @@ def constants(prefix: str) -> dict[str, int]:
 
 @needs_library
 class Names(unittest.TestCase):
-    """The names and numbers of the package, beside those of fv.h and docs/FAULTS.md."""
+    """The names and numbers of the package, beside the names and numbers of fv.h and docs/FAULTS.md."""
 
     def test_calls(self) -> None:
         declared = re.findall(r"\bFV_(?:API|CHECKED)_ [^;]*?\b(fv_\w+)\(", HEADER)

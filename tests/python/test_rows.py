@@ -247,7 +247,7 @@ class Streams(unittest.TestCase):
         self.assertGreater(tried, 50)
 
     def test_faults(self) -> None:
-        """Bytes that are no stream have the first fault of the specification's headers, at its place."""
+        """Bytes that are not a stream have the first fault of the specification's headers, at its place."""
         raw, group = "05000019 7a 000000", "0c000003"
         cases = (
             ("05000019", (19, 0, 0)),  # a section of 5 bytes in 4 bytes
@@ -284,7 +284,7 @@ def packed_of(image: bytes) -> Iterator[tuple[fv.Node, bytes]]:
 
 @needs_library
 class Packed(unittest.TestCase):
-    """Packed sections, which liblzma, zlib and tests/making.py have made, and those of made images."""
+    """Packed sections, which liblzma, zlib and tests/making.py have made, and packed sections of made images."""
 
     def test_contents(self) -> None:
         """A section has its contents, if the limit allows them. Bytes after the section are not read."""

@@ -1,7 +1,7 @@
 // SPDX-License-Identifier: BSD-2-Clause-Patent
-//! Makes calls of the crate, so that `test_rust.py` can compare their results with those of the
-//! package for Python. Each line of standard input is the name of a call and its arguments: bytes as
-//! digits, a number, or PEI. For each line this program writes the result in the form of `Debug`.
+//! Makes calls of the crate, so that `test_rust.py` can compare their results with the results of
+//! the package for Python. Each line of standard input is the name of a call and its arguments: bytes
+//! as digits, a number, or PEI. For each line this program writes the result in the form of `Debug`.
 
 use fv::depex::{evaluate, Phase};
 use fv::{header, hobs, image, section, sections, volume, Error, Guid, Reading};

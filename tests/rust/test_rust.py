@@ -1,6 +1,6 @@
 # SPDX-License-Identifier: BSD-2-Clause-Patent
 """The crates of the folder rust: their tests, the examples of their documentation, how they find the library, their
-packages, and the results of their calls beside those of the package for Python."""
+packages, and the results of their calls beside the results of the package for Python."""
 
 import dataclasses
 import enum

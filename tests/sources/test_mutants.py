@@ -104,7 +104,8 @@ class Goals(RoomCase):
                 self.assertEqual(applied(edit.changes, texts), {"src/made.rt": now} if now else None)
 
     def test_edits(self) -> None:
-        """Each wrong body of the repository names a goal that a body can break, also each that `rt ci` tries."""
+        """Each wrong body of the repository can be applied and names a goal that a body can break, also each that `rt ci`
+        tries."""
         for folder in sorted(ROOT.glob("crates/*/mutants")):
             crate = folder.parent
             texts = files_of(crate)
@@ -113,6 +114,7 @@ class Goals(RoomCase):
                 with self.subTest(f"{crate.name}/{path.stem}"):
                     edit = read_edit(path)
                     owners = [paths[edit.of]] if edit.of else changed(edit, texts) or []
+                    self.assertIsNotNone(applied(edit.changes, texts))
                     self.assertTrue(edit.goal)
                     self.assertTrue(can_be_broken(edit.goal, owners, texts), edit.goal)
 

@@ -250,7 +250,7 @@ module _ (input : List ℕ) (ss : List SectionMeaning) (tail : ℕ) (accepted : 
     },
   )
 
-  -- if the rows of these sections are added to no row, the rows are those of the stream
+  -- if the rows of these sections are added to no row, these rows are the rows of the stream
   pub stream_put : (rows : List FvNode) → AreAdded input no_parent 0 0 (map SectionNode ss) [] rows → HasSectionRows input rows
   stream_put rows added = record {
     sections = ss;

@@ -202,7 +202,8 @@ pub extern "C" fn fvp_sections_tree_digests(
     // Any other result is the first fault of the bytes that are read, or out of memory. Memory can
     // run out only if the marks of fixed files are taken away, or if the headers of all sections are
     // right, and there is a section.
-    ensures err { result ≢ 0 → result ≢ 256 → (f : Fault) × OrMemory (λ f. Reads Stream without_marks sections.now (λ b. RejectsSections b f)) f
+    ensures err { result ≢ 0 → result ≢ 256 → (f : Fault)
+        × OrMemory (λ f. Reads Stream without_marks sections.now (λ b. RejectsSections b f)) f
         × (f ≡ out_of_memory → without_marks ≡ false → HasFrame sections.now)
         × (result ≡ fault_number f.kind) × (fault.new ≡ reported_fault f) × (count.new ≡ count.old) }
 

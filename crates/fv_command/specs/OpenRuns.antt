@@ -52,7 +52,7 @@ PackedStops answer fault = ⊥
 
 -- the text and the status of `open`. Without a path the input was read to its end, and the text shows the contents of the
 -- section that begins at byte `at` of it. With a path the bytes that were taken from the input (`GivesAt`) begin with a
--- volume, and the text is that of the section at the end of the path in this volume
+-- volume, and the text is about the section at the end of the path in this volume (`PackedText`)
 abbrev pub OpenText : (path : Option (Vec ℕ Global)) → Bool → (at : Option ℕ) → (input : Change) → Status → List ℕ → Type 0
 OpenText None hex at input status text =
     (status ≡ Done) × ((bytes : List ℕ) × Gives hex input.old input.new bytes

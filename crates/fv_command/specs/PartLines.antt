@@ -37,8 +37,8 @@ abbrev pub opened_status : (ran_out : Bool) → Status → Status
 opened_status true status = Incomplete
 opened_status false status = status
 
--- the status of an extraction through packed sections: Incomplete if memory ran out in a packed section, otherwise that of
--- an extraction, or Different if no file was found
+-- the status of an extraction through packed sections: Incomplete if memory ran out in a packed section, otherwise the
+-- status of an extraction, or Different if no file was found
 abbrev pub found_status : Option Outcome → Status
 found_status (Some outcome) = part_status outcome
 found_status None = Different

@@ -110,8 +110,8 @@ pub fn put_first_section<R: Read, S: Sink>(
 ///
 /// # Errors
 ///
-/// The faults of reading, the faults of `fv_tree::read_volume`, and those of `fv_open::open_frame`.
-/// Nothing has been put in that case.
+/// The faults of reading, of `fv_tree::read_volume` and of `fv_open::open_frame`. Nothing has been put
+/// in that case.
 pub fn put_section_at<R: Read, S: Sink>(
     alloc: Global,
     hex: bool,

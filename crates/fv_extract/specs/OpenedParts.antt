@@ -111,7 +111,8 @@ VolumeSearch name m end = RowsSearch name (PackedSearch name nesting_limit) at_s
 abbrev pub search_of : Option Outcome → Progress → Search
 search_of outcome s = record { outcome = outcome; unread = s.unread; ran_out = s.budget.ran_out }
 
--- the result and the text of a search that ends here. In a volume, they are those of the extraction from this volume
+-- the result and the text of a search that ends here. In a volume, the extraction from this volume
+-- gives both
 abbrev pub EndText : Part → Bool → SearchEnd → Search → List ℕ → Type 0
 EndText part hex (InVolume m s) search text =
     (x : Extraction) × (outcome : Outcome) × IsPart (file_named part.name (files_of m)) part.section part.instance x

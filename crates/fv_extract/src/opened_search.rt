@@ -69,7 +69,8 @@ fn put_in_volume<S: Sink>(
     progress: Progress,
     out: &mut S,
 ) -> Result<Step, Fault>
-    ensures { PutsStep S.takes request (end_in (file_named request.part.name (files_of volume.now)) volume.now progress) out.old out.new result }
+    ensures { PutsStep S.takes request (end_in (file_named request.part.name (files_of volume.now)) volume.now progress)
+        out.old out.new result }
 {
     if file_by_name(volume, &request.part.name).is_none() {
         return Ok(Step::Going(progress));
@@ -178,15 +179,15 @@ fn put_in_rows<S: Sink>(
 }
 
 /// Extracts a part from the first volume that has a file with the part's name, and puts its bytes: as
-/// hexadecimal text if `hex` is true, otherwise as they are. The bytes are those that `extract` gives
-/// for that volume. Volumes are searched in the order of the rows of `list --open`: the volume itself,
-/// and then, as the rows follow each other, the volumes that sections contain, and the volumes in the
+/// hexadecimal text if `hex` is true, otherwise as they are. `extract` gives the same bytes for that
+/// volume. Volumes are searched in the order of the rows of `list --open`: the volume itself, and
+/// then, as the rows follow each other, the volumes that sections contain, and the volumes in the
 /// contents of packed sections, which are compression sections and GUID-defined sections.
 ///
-/// The contents of a packed section have at most 268,435,456 bytes, and those of all packed sections
-/// together at most 1,073,741,824 bytes. Packed sections nest at most 8 deep. A section that exceeds
-/// these limits, that is damaged, that has no known way, or whose contents are not sections, is
-/// counted, and the search goes on after it. It also goes on if memory runs out while a section is
+/// The contents of a packed section have at most 268,435,456 bytes, and the contents of all packed
+/// sections together at most 1,073,741,824 bytes. Packed sections nest at most 8 deep. A section that
+/// exceeds these limits, that is damaged, that has no known way, or whose contents are not sections,
+/// is counted, and the search goes on after it. It also goes on if memory runs out while a section is
 /// opened or its contents are read. The contents of a section are in memory while they are searched.
 /// (PI specification, volume 3, sections 3.2.3, 3.2.4, 3.2.5.2 and 3.2.5.7.)
 ///

@@ -111,8 +111,9 @@ pub(crate) fn cell_at<'a>(
     }
 }
 
-// Returns the length of a cell in bytes, including its filler.
-pub(crate) fn span_of(cell: &Cell) -> u64
+/// Returns the length of a cell in bytes, including its filler. (PI specification, volume 3, section
+/// 3.2.3.)
+pub fn span_of(cell: &Cell) -> u64
     requires { cell_len (cell_form cell.now) < 2 ^ 64 }
     ensures { result ≡ cell_len (cell_form cell.now) }
 {

@@ -20,7 +20,7 @@ mod unmark_check;
 pub use attributes::FileAttributes;
 pub use cell::Cell;
 pub use cell_list::Cells;
-pub use cell_walk::{CellWalk, cells};
+pub use cell_walk::{CellWalk, cells, span_of};
 pub use first_file::verify_ffs_file;
 pub use head::{FIXED_CHECKSUM, FileHead};
 pub use new_header::{

@@ -2,13 +2,7 @@
 -- (`body_kept`).
 use Rattle.std.proofs.Common.{◌≡◌, ◌≤◌, ℕ, zero, suc, ◌+◌, ◌-◌, [], ◌∷◌, ◌++◌}
 use Rattle.fv_base.proofs.Laws.{List, length, take, drop, refl, sym, ap, ◌∙◌, subst, arith, field, inl, inr, true, false, Bool}
-use Rattle.fv_base.proofs.Laws.{drop-take, take_all, common_steps, AllByRecursion}
-use Rattle.std.proofs.Common.{if◌then◌else◌, is_some, Some, None, le-leb, leb-true}
-use Rattle.std.proofs.lemmas.Bool.Decides.{Decides-and, Decides-like}
-use Rattle.fv_base.proofs.Laws.{Decides, Decides-eqb, bytes_eq-Decides}
-use Rattle.fv_base.specs.declared.flash.FileSystem.{FileSystem}
-use Rattle.fv_base.specs.declared.flash.FileSystem.TheVariants.{Ffs2, Ffs3}
-use Rattle.fv_head.specs.Words.{system_guid, is_one_volume}
+use Rattle.fv_base.proofs.Laws.{drop-take, take_all, AllByRecursion}
 use Rattle.fv_file.specs.Words.{Tiles, Unmarks}
 use Rattle.fv_file.proofs.Laws.{none_after}
 use Rattle.fv_base.specs.Words.{First}
@@ -16,25 +10,26 @@ use Rattle.fv_head.specs.Words.{BeginsVolume}
 use Rattle.fv_head.specs.declared.extent.Extent.{Extent}
 use Rattle.fv_head.proofs.Laws.{first_lies, one_front}
 use Rattle.fv_section.specs.Words.{FrameForm, SplitsFrom, frame_len, up_to_4}
+use Rattle.fv_section.proofs.Laws.{others_split}
 use Rattle.fv_tree.specs.Words.{BeginWithFiles, Denotes, FileForm, HasDataIn, MeansContent, MeansFile, MeansSection, Pairwise, Stream, body_place}
-use Rattle.fv_tree.specs.Words.{data_place, head_of, holds_sections}
+use Rattle.fv_tree.specs.Words.{data_place, head_of, holds_sections, shape_of}
 use Rattle.fv_tree.specs.Words.{Meaning, FileMeaning, File, ContentMeaning, Plain, Sectioned, SectionMeaning, Section, Leaf, Group, Nested}
 use Rattle.fv_tree.specs.Words.{sections_list, AreFilesOf, Opens, files_of, group_kind, volume_kind}
-use Rattle.fv_tree.proofs.Laws.{begun_data, front_of, one_files}
-use Rattle.fv_marks.specs.declared.section.BodyKind.{BodyKind}
-use Rattle.fv_marks.specs.declared.section.BodyKind.TheVariants as bodies
+use Rattle.fv_tree.proofs.Laws.{begun_data, front_of, group_is_no_volume, group_shape, one_files, volume_shape}
+use Rattle.fv_tree.specs.declared.shape.Shape.{Shape}
+use Rattle.fv_tree.specs.declared.shape.Shape.TheVariants as shapes
 use Rattle.fv_marks.specs.Words.{BodyLoses, EachFileLoses, FilesLose, FramesLose, Loses, LosesOwn, StreamLoses, VolumeLoses}
-use Rattle.fv_marks.specs.Words.{DataLose, body_kind_of}
-use Rattle.fv_marks.proofs.FrameLemmas.{body_there, first_is, none_there, others_there}
+use Rattle.fv_marks.specs.Words.{DataLose}
+use Rattle.fv_marks.proofs.FrameLemmas.{body_there, first_is, none_there}
 use Rattle.fv_marks.proofs.PartLemmas.{part_same, three_parts}
 
 -- ---- a stream
 
 -- the bodies of frames that were read stay the same
-abbrev pub BodiesStay : ℕ → (BodyKind → Loses) → Type 0
-BodiesStay n inside = (f : FrameForm) (s : SectionMeaning) (x : List ℕ) → MeansSection n f s → inside (body_kind_of f) f.body x → x ≡ f.body
+abbrev pub BodiesStay : ℕ → (Shape → Loses) → Type 0
+BodiesStay n inside = (f : FrameForm) (s : SectionMeaning) (x : List ℕ) → MeansSection n f s → inside (shape_of f) f.body x → x ≡ f.body
 
-module _ (n : ℕ) (inside : BodyKind → Loses) (stay : BodiesStay n inside) where
+module _ (n : ℕ) (inside : Shape → Loses) (stay : BodiesStay n inside) where
   frames_kept : (gs fs : List FrameForm) (ss : List SectionMeaning) (t at : ℕ) (b o : List ℕ) → SplitsFrom at fs t (drop at b)
       → Pairwise (MeansSection n) fs ss → FramesLose inside gs at b o → o ≡ b
   frames_kept [] fs ss t at b o split means (none, same) = same
@@ -44,9 +39,9 @@ module _ (n : ℕ) (inside : BodyKind → Loses) (stay : BodiesStay n inside) wh
       let is : g ≡ f = first_is at f g fs t b split here in
       let means' : MeansSection n g s = rw is means.0 in
       let there = body_there g at b here in
-      let same : m ≡ b = part_same (inside (body_kind_of g)) (body_place g) (length g.body) b m
-      (λ x lost. stay g s x means' (subst (λ (l : List ℕ). inside (body_kind_of g) l x) there.0 lost) ∙ sym there.0) change in
-      let rest = others_there at f fs t b split in
+      let same : m ≡ b = part_same (inside (shape_of g)) (body_place g) (length g.body) b m
+      (λ x lost. stay g s x means' (subst (λ (l : List ℕ). inside (shape_of g) l x) there.0 lost) ∙ sym there.0) change in
+      let rest = others_split at f fs t b split in
       frames_kept gs fs ss rest.0 (up_to_4 (at + frame_len f)) b o rest.1 means.1
       (subst (λ (h : FrameForm). FramesLose inside gs (up_to_4 (at + frame_len h)) b o) is
       (subst (λ (l : List ℕ). FramesLose inside gs (up_to_4 (at + frame_len g)) l o) same more))
@@ -141,37 +136,11 @@ module _ (n : ℕ) (stream : Loses) (stay : StreamsStay n stream) where
 
 -- ---- the recursion
 
--- a test for FFS2 and a test for FFS3 decide whether P holds of some file system
-either : (P : FileSystem → Type 0) (t u : Bool) → Decides t (P Ffs2) → Decides u (P Ffs3)
-    → Decides (is_some (if t then Some Ffs2 else (if u then Some Ffs3 else None))) ((system : FileSystem) × P system)
-either P t u two three = grind (arith, common_steps)
-
-pub opens_decides : (b : List ℕ) → Decides (is_one_volume b) (Opens b)
-opens_decides b =
-    Decides-like _ (λ h. grind arith) (λ o. (((o.least, o.signature), o.file_system), o.length_is)) (Decides-and _ _ (Decides-and _ _
-    (Decides-and _ _ (leb-true 56 (length b), le-leb 56 (length b)) (bytes_eq-Decides _ _))
-    (either (λ s. field 16 16 b ≡ system_guid s) _ _ (bytes_eq-Decides _ _) (bytes_eq-Decides _ _))) (Decides-eqb _ _))
-
-by_tests : (g v : Bool) (kind : BodyKind) → (if g then bodies.Group else (if v then bodies.Volume else bodies.Leaf)) ≡ kind
-    → (kind ≡ bodies.Group → g ≡ true) × (kind ≡ bodies.Volume → v ≡ true)
-by_tests g v kind is = grind (arith, common_steps)
-
--- a body that is read as sections is the body of a group, and a body that is read as a volume is opened
-group_by : (f : FrameForm) → body_kind_of f ≡ bodies.Group → f.kind ≡ group_kind
-group_by f is = (Decides-eqb _ _).0 ((by_tests _ _ _ is).0 refl)
-
-volume_by : (f : FrameForm) → body_kind_of f ≡ bodies.Volume → (f.kind ≡ volume_kind) × Opens f.body
-volume_by f is = grind (arith, common_steps, by_tests _ _ _ is, opens_decides f.body)
-
--- the type of a group is not the type of a volume
-group_is_no_volume : (f : FrameForm) → f.kind ≡ group_kind → f.kind ≡ volume_kind → ⊥
-group_is_no_volume f a b = omega (arith, a, b)
-
 -- if no level is left, a body stays the same
-none_left : (kind : BodyKind) (b o : List ℕ) → BodyLoses 0 kind b o → o ≡ b
-none_left bodies.Leaf b o same = same
-none_left bodies.Group b o same = same
-none_left bodies.Volume b o same = same
+none_left : (shape : Shape) (b o : List ℕ) → BodyLoses 0 shape b o → o ≡ b
+none_left shapes.Leaf b o same = same
+none_left shapes.Group b o same = same
+none_left shapes.Volume b o same = same
 
 -- a group that was read stays the same, if the bodies in it do
 group_kept : (k n : ℕ) → ((i : ℕ) → BodiesStay i (BodyLoses k)) → (f : FrameForm) (s : SectionMeaning) (x : List ℕ) → f.kind ≡ group_kind
@@ -204,18 +173,18 @@ opened_kept k (suc i) stay f (Section kind extended (Nested v)) x is opens means
     volume_kept i (StreamLoses (BodyLoses k)) (stream_kept i (BodyLoses k) (stay i)) (length f.body) f.body v (omega arith)
     (subst (λ (l : List ℕ). Denotes i l v) (sym (take_all (length f.body) f.body (omega arith))) means.2.2) x lost
 
-kind_kept : (k n : ℕ) → ((i : ℕ) → BodiesStay i (BodyLoses k)) → (f : FrameForm) (s : SectionMeaning) (x : List ℕ) (kind : BodyKind)
-    → body_kind_of f ≡ kind → MeansSection n f s → BodyLoses (suc k) kind f.body x → x ≡ f.body
-kind_kept k n stay f s x bodies.Leaf is means lost = lost
-kind_kept k n stay f s x bodies.Group is means lost = group_kept k n stay f s x (group_by f is) means lost
-kind_kept k n stay f s x bodies.Volume is means lost =
-    let open_is = volume_by f is in
-    opened_kept k n stay f s x open_is.0 open_is.1 means lost
+shape_kept : (k n : ℕ) → ((i : ℕ) → BodiesStay i (BodyLoses k)) → (f : FrameForm) (s : SectionMeaning) (x : List ℕ) (shape : Shape)
+    → shape_of f ≡ shape → MeansSection n f s → BodyLoses (suc k) shape f.body x → x ≡ f.body
+shape_kept k n stay f s x shapes.Leaf is means lost = lost
+shape_kept k n stay f s x shapes.Group is means lost = group_kept k n stay f s x (group_shape f is) means lost
+shape_kept k n stay f s x shapes.Volume is means lost =
+    let open_is = volume_shape f is in
+    opened_kept k n stay f s x open_is.kind open_is.opens means lost
 
 -- the body of a section that was read stays the same
 pub body_kept : (k n : ℕ) → BodiesStay n (BodyLoses k)
-body_kept zero n f s x means lost = none_left (body_kind_of f) f.body x lost
-body_kept (suc k) n f s x means lost = kind_kept k n (body_kept k) f s x (body_kind_of f) refl means lost
+body_kept zero n f s x means lost = none_left (shape_of f) f.body x lost
+body_kept (suc k) n f s x means lost = shape_kept k n (body_kept k) f s x (shape_of f) refl means lost
 
 -- ---- what is accepted
 

@@ -11,12 +11,11 @@ use Rattle.fv_head.specs.declared.extent.Extent.{Extent}
 use Rattle.fv_head.proofs.Laws.{first_lies}
 use Rattle.fv_section.specs.Words.{FrameForm, HasFrameAt, frame_len, up_to_4}
 use Rattle.fv_tree.specs.Words.{BeginWithFiles, FileForm, HasDataIn, body_place, current_in, data_place, files_in, group_kind}
-use Rattle.fv_tree.specs.Words.{holds_sections, volume_kind}
+use Rattle.fv_tree.specs.Words.{holds_sections, shape_of, volume_kind}
 use Rattle.fv_tree.proofs.Laws.{begun_data, header_kept, kept}
-use Rattle.fv_marks.specs.declared.section.BodyKind.{BodyKind}
-use Rattle.fv_marks.specs.declared.section.BodyKind.TheVariants as bodies
+use Rattle.fv_tree.specs.declared.shape.Shape.{Shape}
+use Rattle.fv_tree.specs.declared.shape.Shape.TheVariants as shapes
 use Rattle.fv_marks.specs.Words.{BodyLoses, ChangesPart, DataLose, EachFileLoses, FramesLose, Loses, LosesOwn, StreamLoses, VolumeLoses}
-use Rattle.fv_marks.specs.Words.{body_kind_of}
 use Rattle.fv_marks.proofs.FrameLemmas.{body_there}
 use Rattle.fv_marks.proofs.PartLemmas.{three_parts}
 use Rattle.fv_marks.proofs.StreamChangeLemmas.{next_same, still as still_frame, lost_body, with_body}
@@ -96,18 +95,18 @@ module _ (stream : Loses) (stay : SumsStay stream) (again : StaysAgain stream) w
 
 -- ---- a stream
 
-module _ (inside : BodyKind → Loses) (stay : (k : BodyKind) → SumsStay (inside k)) (again : (k : BodyKind) → StaysAgain (inside k))
-    (leaf : (x : List ℕ) → inside bodies.Leaf x x) (leaf_same : (y x : List ℕ) → inside bodies.Leaf y x → x ≡ y) where
+module _ (inside : Shape → Loses) (stay : (k : Shape) → SumsStay (inside k)) (again : (k : Shape) → StaysAgain (inside k))
+    (leaf : (x : List ℕ) → inside shapes.Leaf x x) (leaf_same : (y x : List ℕ) → inside shapes.Leaf y x → x ≡ y) where
   -- whether a body is opened may change, but a body that is not opened after the change has no marks
   by_tests : (g w v : Bool) (y x : List ℕ) → (x ≡ y → v ≡ w)
-      → inside (if g then bodies.Group else (if w then bodies.Volume else bodies.Leaf)) y x
-      → inside (if g then bodies.Group else (if v then bodies.Volume else bodies.Leaf)) x x
-  by_tests true w v y x same lost = again bodies.Group y x lost
+      → inside (if g then shapes.Group else (if w then shapes.Volume else shapes.Leaf)) y x
+      → inside (if g then shapes.Group else (if v then shapes.Volume else shapes.Leaf)) x x
+  by_tests true w v y x same lost = again shapes.Group y x lost
   by_tests false w false y x same lost = leaf x
-  by_tests false true true y x same lost = again bodies.Volume y x lost
+  by_tests false true true y x same lost = again shapes.Volume y x lost
   by_tests false false true y x same lost = cc (same (leaf_same y x lost))
 
-  frame_again : (f : FrameForm) (x : List ℕ) → inside (body_kind_of f) f.body x → inside (body_kind_of (with_body f x)) x x
+  frame_again : (f : FrameForm) (x : List ℕ) → inside (shape_of f) f.body x → inside (shape_of (with_body f x)) x x
   frame_again f x lost =
       by_tests (f.kind == group_kind) ((f.kind == volume_kind) && is_one_volume f.body) ((f.kind == volume_kind) && is_one_volume x) f.body x
       (ap (λ (l : List ℕ). (f.kind == volume_kind) && is_one_volume l)) lost
@@ -119,7 +118,7 @@ module _ (inside : BodyKind → Loses) (stay : (k : BodyKind) → SumsStay (insi
       let there : HasFrameAt g at o = still_frame inside stay f fs at b m o x here lost text more in
       let others = frames_again fs (up_to_4 (at + frame_len f)) m o more in
       let place : up_to_4 (at + frame_len g) ≡ up_to_4 (at + frame_len f) = next_same inside stay f fs at b m o x here lost text more in
-      let change = part_again (inside (body_kind_of g)) (body_place g) (length x) o x (body_there g at o there).0
+      let change = part_again (inside (shape_of g)) (body_place g) (length x) o x (body_there g at o there).0
       (frame_again f x (lost_body inside stay f fs at b m o x here lost text more)) in
       (g ∷ others.0, (there, (o, change, subst (λ (n : ℕ). FramesLose inside others.0 n o o) (sym place) others.1)))
 
@@ -128,18 +127,18 @@ module _ (inside : BodyKind → Loses) (stay : (k : BodyKind) → SumsStay (insi
 
 -- ---- the recursion
 
-leaf_refl : (n : ℕ) (x : List ℕ) → BodyLoses n bodies.Leaf x x
+leaf_refl : (n : ℕ) (x : List ℕ) → BodyLoses n shapes.Leaf x x
 leaf_refl n x = refl
 
-leaf_is : (n : ℕ) (y x : List ℕ) → BodyLoses n bodies.Leaf y x → x ≡ y
+leaf_is : (n : ℕ) (y x : List ℕ) → BodyLoses n shapes.Leaf y x → x ≡ y
 leaf_is n y x same = same
 
-pub body_again : (n : ℕ) (k : BodyKind) → StaysAgain (BodyLoses n k)
-body_again n bodies.Leaf b o same = refl
-body_again zero bodies.Group b o same = refl
-body_again zero bodies.Volume b o same = refl
-body_again (suc n) bodies.Group b o lost = stream_again (BodyLoses n) (body_sum n) (body_again n) (leaf_refl n) (leaf_is n) b o lost
-body_again (suc n) bodies.Volume b o lost =
+pub body_again : (n : ℕ) (k : Shape) → StaysAgain (BodyLoses n k)
+body_again n shapes.Leaf b o same = refl
+body_again zero shapes.Group b o same = refl
+body_again zero shapes.Volume b o same = refl
+body_again (suc n) shapes.Group b o lost = stream_again (BodyLoses n) (body_sum n) (body_again n) (leaf_refl n) (leaf_is n) b o lost
+body_again (suc n) shapes.Volume b o lost =
     volume_again (StreamLoses (BodyLoses n)) (stream_sum (BodyLoses n) (body_sum n))
     (stream_again (BodyLoses n) (body_sum n) (body_again n) (leaf_refl n) (leaf_is n)) b o lost
 

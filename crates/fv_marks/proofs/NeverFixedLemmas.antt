@@ -13,12 +13,11 @@ use Rattle.fv_head.specs.declared.extent.Extent.{Extent}
 use Rattle.fv_head.proofs.Laws.{one_front}
 use Rattle.fv_section.specs.Words.{FrameForm}
 use Rattle.fv_tree.specs.Words.{AreFilesOf, BeginWithFiles, BodyFault, FileFault, FileForm, InSection, InStream, InVolume, NamesFault, Opens, body_at, current_in}
-use Rattle.fv_tree.specs.Words.{data_at, files_in, group_kind, holds_sections, volume_kind}
-use Rattle.fv_tree.proofs.Laws.{header_kept, kept}
-use Rattle.fv_marks.specs.declared.section.BodyKind.{BodyKind}
-use Rattle.fv_marks.specs.declared.section.BodyKind.TheVariants as bodies
-use Rattle.fv_marks.specs.Words.{BodyLoses, DataLose, EachFileLoses, Loses, LosesOwn, StreamLoses, VolumeLoses, body_kind_of}
-use Rattle.fv_marks.proofs.AcceptedLemmas.{opens_decides}
+use Rattle.fv_tree.specs.Words.{data_at, files_in, group_kind, holds_sections, shape_of, volume_kind}
+use Rattle.fv_tree.proofs.Laws.{header_kept, kept, opens_decides}
+use Rattle.fv_tree.specs.declared.shape.Shape.{Shape}
+use Rattle.fv_tree.specs.declared.shape.Shape.TheVariants as shapes
+use Rattle.fv_marks.specs.Words.{BodyLoses, DataLose, EachFileLoses, Loses, LosesOwn, StreamLoses, VolumeLoses}
 use Rattle.fv_marks.proofs.VolumeChangeLemmas.{FileBecame, became, changed, new_body, still}
 use Rattle.fv_marks.proofs.StreamChangeLemmas.{Became, stream_became, with_body}
 use Rattle.fv_marks.proofs.SumLemmas.{SumsStay, body_sum, stream_sum}
@@ -105,7 +104,7 @@ module _ (n : ℕ) (stream : Loses) (stay : SumsStay stream)
 
 -- ---- a stream
 
-module _ (n : ℕ) (inside : BodyKind → Loses) (stay : (k : BodyKind) → SumsStay (inside k))
+module _ (n : ℕ) (inside : Shape → Loses) (stay : (k : Shape) → SumsStay (inside k))
     (never : (e : Fault) (g : FrameForm) (at : Place) → Became inside stay g → InSection First n e g at → IsOther e) where
   pub stream_never : (e : Fault) (b o : List ℕ) (at : Place) → StreamLoses inside b o → InStream First n e o at → IsOther e
   stream_never e b o at lost (inl (f, bad, is)) =
@@ -117,30 +116,30 @@ module _ (n : ℕ) (inside : BodyKind → Loses) (stay : (k : BodyKind) → Sums
 -- ---- a section
 
 -- how a body is read follows from the type, and from the body if the type is 17
-group_is : (f : FrameForm) → f.kind ≡ group_kind → body_kind_of f ≡ bodies.Group
+group_is : (f : FrameForm) → f.kind ≡ group_kind → shape_of f ≡ shapes.Group
 group_is f is = rw is refl
 
-volume_is : (f : FrameForm) → f.kind ≡ volume_kind → is_one_volume f.body ≡ true → body_kind_of f ≡ bodies.Volume
+volume_is : (f : FrameForm) → f.kind ≡ volume_kind → is_one_volume f.body ≡ true → shape_of f ≡ shapes.Volume
 volume_is f is opens = rw (is, opens) refl
 
-leaf_is : (f : FrameForm) → f.kind ≡ volume_kind → is_one_volume f.body ≡ false → body_kind_of f ≡ bodies.Leaf
+leaf_is : (f : FrameForm) → f.kind ≡ volume_kind → is_one_volume f.body ≡ false → shape_of f ≡ shapes.Leaf
 leaf_is f is closed = rw (is, closed) refl
 
 -- a body that is opened as a volume was opened before it changed
 opened_never : (n : ℕ) → ((e : Fault) (b o : List ℕ) (at : Place) → VolumeLoses (StreamLoses (BodyLoses n)) b o → InVolume First n e o at → IsOther e)
-    → (e : Fault) (g : FrameForm) (at : Place) (k : BodyKind) (y : List ℕ) (t : Bool) → is_one_volume y ≡ t → k ≡ body_kind_of (with_body g y)
+    → (e : Fault) (g : FrameForm) (at : Place) (k : Shape) (y : List ℕ) (t : Bool) → is_one_volume y ≡ t → k ≡ shape_of (with_body g y)
     → BodyLoses (suc n) k y g.body → g.kind ≡ volume_kind → Opens g.body → InVolume First n e g.body (body_at at g) → IsOther e
 opened_never n never e g at k y true opened is lost kind opens bad =
-    never e y g.body (body_at at g) (subst (λ (k : BodyKind). BodyLoses (suc n) k y g.body) (is ∙ volume_is (with_body g y) kind opened) lost) bad
+    never e y g.body (body_at at g) (subst (λ (k : Shape). BodyLoses (suc n) k y g.body) (is ∙ volume_is (with_body g y) kind opened) lost) bad
 opened_never n never e g at k y false closed is lost kind opens bad =
-    let same : g.body ≡ y = subst (λ (k : BodyKind). BodyLoses (suc n) k y g.body) (is ∙ leaf_is (with_body g y) kind closed) lost in
+    let same : g.body ≡ y = subst (λ (k : Shape). BodyLoses (suc n) k y g.body) (is ∙ leaf_is (with_body g y) kind closed) lost in
     cc ((opens_decides y).1 (subst Opens same opens), closed)
 
 pub section_never : (n : ℕ) (e : Fault) (g : FrameForm) (at : Place) → Became (BodyLoses n) (body_sum n) g → InSection First n e g at → IsOther e
 section_never zero e g at became (which, is) = λ k. cc (ap (λ (x : Fault). x.kind) is, k)
 section_never (suc n) e g at (k, y, is, lost) (inl (group, bad)) =
     stream_never n (BodyLoses n) (body_sum n) (section_never n) e y g.body (body_at at g)
-    (subst (λ (k : BodyKind). BodyLoses (suc n) k y g.body) (is ∙ group_is (with_body g y) group) lost) bad
+    (subst (λ (k : Shape). BodyLoses (suc n) k y g.body) (is ∙ group_is (with_body g y) group) lost) bad
 section_never (suc n) e g at (k, y, is, lost) (inr (kind, opens, bad)) =
     opened_never n
     (volume_never n (StreamLoses (BodyLoses n)) (stream_sum (BodyLoses n) (body_sum n)) (stream_never n (BodyLoses n) (body_sum n) (section_never n)))

@@ -10,12 +10,12 @@ use Rattle.fv_head.specs.declared.extent.Extent.{Extent}
 use Rattle.fv_head.proofs.Laws.{one_front}
 use Rattle.fv_section.specs.Words.{FrameForm, HasFrameAt, frame_len, up_to_4}
 use Rattle.fv_section.proofs.Laws.{one_frame}
-use Rattle.fv_tree.specs.Words.{FileForm, Unfixes, body_place, data_place, holds_sections}
+use Rattle.fv_tree.specs.Words.{FileForm, Unfixes, body_place, data_place, holds_sections, shape_of}
 use Rattle.fv_tree.proofs.Laws.{one_files}
-use Rattle.fv_marks.specs.declared.section.BodyKind.{BodyKind}
-use Rattle.fv_marks.specs.declared.section.BodyKind.TheVariants as bodies
+use Rattle.fv_tree.specs.declared.shape.Shape.{Shape}
+use Rattle.fv_tree.specs.declared.shape.Shape.TheVariants as shapes
 use Rattle.fv_marks.specs.Words.{BodyLoses, ChangesPart, DataLose, EachFileLoses, FilesLose, FramesLose, Loses, LosesOwn, StreamLoses}
-use Rattle.fv_marks.specs.Words.{VolumeLoses, body_kind_of}
+use Rattle.fv_marks.specs.Words.{VolumeLoses}
 
 -- bytes become only one thing
 abbrev pub HasOne : Loses → Type 0
@@ -69,16 +69,16 @@ module _ (stream : Loses) (one : HasOne stream) where
 one_there : (f g : FrameForm) (at : ℕ) (b : List ℕ) → HasFrameAt f at b → HasFrameAt g at b → g ≡ f
 one_there f g at b s t = (one_frame g f (drop at b) t.rest s.rest (t.offset ∙ sym s.offset) t.begins s.begins).0
 
-module _ (inside : BodyKind → Loses) (one : (k : BodyKind) → HasOne (inside k)) where
+module _ (inside : Shape → Loses) (one : (k : Shape) → HasOne (inside k)) where
   one_frames : (fs gs : List FrameForm) (at : ℕ) (b o x : List ℕ) → FramesLose inside fs at b o → FramesLose inside gs at b x → x ≡ o
   one_frames [] [] at b o x (none, same) (nothing, is) = is ∙ sym same
   one_frames [] (g ∷ gs) at b o x (none, same) (here, more) = absurd (none g here)
   one_frames (f ∷ fs) [] at b o x (here, more) (none, same) = absurd (none f here)
   one_frames (f ∷ fs) (g ∷ gs) at b o x (here, (m, lost, more)) (there, (n, change, rest)) =
       let is : g ≡ f = one_there f g at b here there in
-      let change' : ChangesPart (inside (body_kind_of f)) (body_place f) (length f.body) b n =
-      subst (λ (h : FrameForm). ChangesPart (inside (body_kind_of h)) (body_place h) (length h.body) b n) is change in
-      let same : n ≡ m = one_part (inside (body_kind_of f)) (body_place f) (length f.body) (one (body_kind_of f)) b m n lost change' in
+      let change' : ChangesPart (inside (shape_of f)) (body_place f) (length f.body) b n =
+      subst (λ (h : FrameForm). ChangesPart (inside (shape_of h)) (body_place h) (length h.body) b n) is change in
+      let same : n ≡ m = one_part (inside (shape_of f)) (body_place f) (length f.body) (one (shape_of f)) b m n lost change' in
       one_frames fs gs (up_to_4 (at + frame_len f)) m o x more
       (subst (λ (l : List ℕ). FramesLose inside gs (up_to_4 (at + frame_len f)) l x) same
       (subst (λ (h : FrameForm). FramesLose inside gs (up_to_4 (at + frame_len h)) n x) is rest))
@@ -88,10 +88,10 @@ module _ (inside : BodyKind → Loses) (one : (k : BodyKind) → HasOne (inside 
 
 -- ---- the recursion
 
-pub one_body : (n : ℕ) (k : BodyKind) → HasOne (BodyLoses n k)
-one_body n bodies.Leaf b o x same is = is ∙ sym same
-one_body zero bodies.Group b o x same is = is ∙ sym same
-one_body zero bodies.Volume b o x same is = is ∙ sym same
-one_body (suc n) bodies.Group b o x lost change = one_stream (BodyLoses n) (one_body n) b o x lost change
-one_body (suc n) bodies.Volume b o x lost change =
+pub one_body : (n : ℕ) (k : Shape) → HasOne (BodyLoses n k)
+one_body n shapes.Leaf b o x same is = is ∙ sym same
+one_body zero shapes.Group b o x same is = is ∙ sym same
+one_body zero shapes.Volume b o x same is = is ∙ sym same
+one_body (suc n) shapes.Group b o x lost change = one_stream (BodyLoses n) (one_body n) b o x lost change
+one_body (suc n) shapes.Volume b o x lost change =
     one_volume (StreamLoses (BodyLoses n)) (one_stream (BodyLoses n) (one_body n)) b o x lost change

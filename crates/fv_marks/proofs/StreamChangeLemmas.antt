@@ -4,11 +4,11 @@ use Rattle.std.proofs.Common.{◌≡◌, ◌≤◌, ℕ, ◌+◌, [], ◌∷◌,
 use Rattle.fv_base.proofs.Laws.{List, length, take, drop, refl, sym, ap, ◌∙◌, subst, arith, field, AllByRecursion, append_assoc, drop-drop, drop_at}
 use Rattle.fv_base.proofs.Laws.{length-append, length-drop, length-take-le, take-append-drop, take-take_le, take_at}
 use Rattle.fv_section.specs.Words.{FrameForm, HasFrameAt, IsSectionHeader, SplitsFrom, frame_len, section_header_len, up_to_4}
-use Rattle.fv_section.proofs.Laws.{length_begun, size_least, stands_within}
-use Rattle.fv_tree.specs.Words.{body_place}
-use Rattle.fv_marks.specs.declared.section.BodyKind.{BodyKind}
-use Rattle.fv_marks.specs.Words.{FramesLose, Loses, body_kind_of}
-use Rattle.fv_marks.proofs.FrameLemmas.{begins_of, body_there, first_is, none_there, others_there}
+use Rattle.fv_section.proofs.Laws.{begins_of, length_begun, others_split, size_least, stands_within}
+use Rattle.fv_tree.specs.Words.{body_place, shape_of}
+use Rattle.fv_tree.specs.declared.shape.Shape.{Shape}
+use Rattle.fv_marks.specs.Words.{FramesLose, Loses}
+use Rattle.fv_marks.proofs.FrameLemmas.{body_there, first_is, none_there}
 use Rattle.fv_marks.proofs.SumLemmas.{SumsStay, frames_sum}
 
 -- the frame f with another body
@@ -116,10 +116,10 @@ up_past n = omega arith
 
 -- ---- a stream
 
-module _ (inside : BodyKind → Loses) (stay : (k : BodyKind) → SumsStay (inside k)) where
+module _ (inside : Shape → Loses) (stay : (k : Shape) → SumsStay (inside k)) where
   -- the body of the frame g is what another body became
   abbrev pub Became : FrameForm → Type 0
-  Became g = (k : BodyKind) × (y : List ℕ) × (k ≡ body_kind_of (with_body g y)) × inside k y g.body
+  Became g = (k : Shape) × (y : List ℕ) × (k ≡ shape_of (with_body g y)) × inside k y g.body
 
   front_kept : (fs : List FrameForm) (at : ℕ) (b o : List ℕ) → FramesLose inside fs at b o → take at o ≡ take at b
   front_kept [] at b o (none, same) = ap (take at) same
@@ -131,8 +131,8 @@ module _ (inside : BodyKind → Loses) (stay : (k : BodyKind) → SumsStay (insi
       ∙ front_changed f at b here x m (body_long f at b here x lost) text
     where
       body_long : (f : FrameForm) (at : ℕ) (b : List ℕ) → HasFrameAt f at b → (x : List ℕ)
-          → inside (body_kind_of f) (field (body_place f) (length f.body) b) x → length x ≡ length f.body
-      body_long f at b here x lost = (stay (body_kind_of f) _ x lost).0 ∙ ap length (body_there f at b here).0
+          → inside (shape_of f) (field (body_place f) (length f.body) b) x → length x ≡ length f.body
+      body_long f at b here x lost = (stay (shape_of f) _ x lost).0 ∙ ap length (body_there f at b here).0
 
   -- a frame that begins bytes after a place is a frame at this place
   begun_there : (at : ℕ) (g : FrameForm) (gs : List FrameForm) (t : ℕ) (b : List ℕ) → SplitsFrom at (g ∷ gs) t (drop at b) → HasFrameAt g at b
@@ -147,7 +147,7 @@ module _ (inside : BodyKind → Loses) (stay : (k : BodyKind) → SumsStay (insi
 
   -- after the bodies of a frame and of the frames after it changed, the frame has another body
   module _ (f : FrameForm) (fs : List FrameForm) (at : ℕ) (b m o x : List ℕ) (here : HasFrameAt f at b)
-      (lost : inside (body_kind_of f) (field (body_place f) (length f.body) b) x)
+      (lost : inside (shape_of f) (field (body_place f) (length f.body) b) x)
       (text : m ≡ take (body_place f) b ++ (x ++ drop (body_place f + length f.body) b))
       (more : FramesLose inside fs (up_to_4 (at + frame_len f)) m o) where
     abbrev pub next : ℕ
@@ -157,28 +157,28 @@ module _ (inside : BodyKind → Loses) (stay : (k : BodyKind) → SumsStay (insi
     body_is = (body_there f at b here).0
 
     pub long_body : length x ≡ length f.body
-    long_body = (stay (body_kind_of f) _ x lost).0 ∙ ap length body_is
+    long_body = (stay (shape_of f) _ x lost).0 ∙ ap length body_is
 
     pub still : HasFrameAt (with_body f x) at o
     still = frame_still (with_body f x) at m (frame_changed f at b here x m long_body text) o next
         (omega (arith, long_body, up_past (at + frame_len f))) (front_kept fs next m o more) (frames_sum inside stay fs next m o more).0
 
-    pub lost_body : inside (body_kind_of f) f.body x
-    lost_body = subst (λ (l : List ℕ). inside (body_kind_of f) l x) body_is lost
+    pub lost_body : inside (shape_of f) f.body x
+    lost_body = subst (λ (l : List ℕ). inside (shape_of f) l x) body_is lost
 
     -- the next frame begins where it began before
     pub next_same : up_to_4 (at + frame_len (with_body f x)) ≡ next
     next_same = ap (λ (n : ℕ). up_to_4 (at + (section_header_len f.extended + n))) long_body
 
     became : Became (with_body f x)
-    became = (body_kind_of f, f.body, refl, lost_body)
+    became = (shape_of f, f.body, refl, lost_body)
 
     frames_on : (gs : List FrameForm) (t : ℕ) → SplitsFrom at gs t (drop at o)
         → ((hs : List FrameForm) (u : ℕ) → SplitsFrom next hs u (drop next o) → AllByRecursion Became hs) → AllByRecursion Became gs
     frames_on [] t split later = absurd (none_there at (with_body f x) t o split still)
     frames_on (g ∷ gs) t split later =
         let is : with_body f x ≡ g = first_is at g (with_body f x) gs t o split still in
-        let rest = others_there at g gs t o split in
+        let rest = others_split at g gs t o split in
         let place : up_to_4 (at + frame_len g) ≡ next = ap (λ (h : FrameForm). up_to_4 (at + frame_len h)) (sym is) ∙ next_same in
         (subst Became is became, later gs rest.0 (subst (λ (i : ℕ). SplitsFrom i gs rest.0 (drop i o)) place rest.1))
 

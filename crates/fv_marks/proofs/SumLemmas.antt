@@ -12,11 +12,11 @@ use Rattle.fv_file.specs.Words.{IsFirstCellFault, Unmarks, unmarked}
 use Rattle.fv_file.proofs.Laws.{fixed_least, length-unmarked}
 use Rattle.fv_head.proofs.Laws.{first_lies}
 use Rattle.fv_section.specs.Words.{FrameForm}
-use Rattle.fv_tree.specs.Words.{FileForm, data_place, holds_sections}
-use Rattle.fv_marks.specs.declared.section.BodyKind.{BodyKind}
-use Rattle.fv_marks.specs.declared.section.BodyKind.TheVariants as bodies
+use Rattle.fv_tree.specs.Words.{FileForm, data_place, holds_sections, shape_of}
+use Rattle.fv_tree.specs.declared.shape.Shape.{Shape}
+use Rattle.fv_tree.specs.declared.shape.Shape.TheVariants as shapes
 use Rattle.fv_marks.specs.Words.{BodyLoses, ChangesPart, DataLose, EachFileLoses, FilesLose, FramesLose, Loses, LosesOwn, StreamLoses}
-use Rattle.fv_marks.specs.Words.{VolumeLoses, body_kind_of}
+use Rattle.fv_marks.specs.Words.{VolumeLoses}
 use Rattle.fv_marks.proofs.OwnMarkLemmas.{next_fixed}
 use Rattle.fv_marks.proofs.PartLemmas.{three_parts}
 
@@ -111,20 +111,20 @@ module _ (stream : Loses) (stay : SumsStay stream) where
   pub volume_sum : SumsStay (VolumeLoses stream)
   volume_sum b o (m, own, lost) = sum_then b m o (own_sum b m own) (all_sum m o lost)
 
-module _ (inside : BodyKind → Loses) (stay : (k : BodyKind) → SumsStay (inside k)) where
+module _ (inside : Shape → Loses) (stay : (k : Shape) → SumsStay (inside k)) where
   pub frames_sum : (fs : List FrameForm) (at : ℕ) → SumsStay (FramesLose inside fs at)
   frames_sum [] at b o (none, same) = sum_same b o same
   frames_sum (f ∷ fs) at b o (here, (m, change, more)) =
-      sum_then b m o (sum_part (inside (body_kind_of f)) _ (length f.body) b m (stay (body_kind_of f)) change) (frames_sum fs _ m o more)
+      sum_then b m o (sum_part (inside (shape_of f)) _ (length f.body) b m (stay (shape_of f)) change) (frames_sum fs _ m o more)
 
   pub stream_sum : SumsStay (StreamLoses inside)
   stream_sum b o (fs, lost) = frames_sum fs 0 b o lost
 
 -- ---- the recursion
 
-pub body_sum : (n : ℕ) (k : BodyKind) → SumsStay (BodyLoses n k)
-body_sum n bodies.Leaf b o same = sum_same b o same
-body_sum zero bodies.Group b o same = sum_same b o same
-body_sum zero bodies.Volume b o same = sum_same b o same
-body_sum (suc n) bodies.Group b o lost = stream_sum (BodyLoses n) (body_sum n) b o lost
-body_sum (suc n) bodies.Volume b o lost = volume_sum (StreamLoses (BodyLoses n)) (stream_sum (BodyLoses n) (body_sum n)) b o lost
+pub body_sum : (n : ℕ) (k : Shape) → SumsStay (BodyLoses n k)
+body_sum n shapes.Leaf b o same = sum_same b o same
+body_sum zero shapes.Group b o same = sum_same b o same
+body_sum zero shapes.Volume b o same = sum_same b o same
+body_sum (suc n) shapes.Group b o lost = stream_sum (BodyLoses n) (body_sum n) b o lost
+body_sum (suc n) shapes.Volume b o lost = volume_sum (StreamLoses (BodyLoses n)) (stream_sum (BodyLoses n) (body_sum n)) b o lost

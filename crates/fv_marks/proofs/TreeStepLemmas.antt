@@ -5,14 +5,14 @@ use Rattle.std.proofs.Common.{◌≡◌, ◌≤◌, ◌<◌, ℕ, zero, suc, ◌
 use Rattle.fv_base.proofs.Laws.{List, length, take, drop, refl, sym, ap, ◌∙◌, subst, arith, map, field, true, false, drop_more, get_or-map}
 use Rattle.fv_base.proofs.Laws.{length-drop, length-map, common_steps, drop-drop, at_index, AllByRecursion}
 use Rattle.fv_section.specs.Words.{FrameForm, HasFrameAt, frame_len, up_to_4}
-use Rattle.fv_tree.specs.Words.{FileForm, HasDataIn, body_place, data_place, holds_sections}
-use Rattle.fv_marks.specs.declared.section.BodyKind.{BodyKind}
-use Rattle.fv_marks.specs.declared.section.BodyKind.TheVariants as bodies
+use Rattle.fv_tree.specs.Words.{FileForm, HasDataIn, body_place, data_place, holds_sections, shape_of}
+use Rattle.fv_tree.specs.declared.shape.Shape.{Shape}
+use Rattle.fv_tree.specs.declared.shape.Shape.TheVariants as shapes
 use Rattle.fv_marks.specs.Words.{BodyLoses, ChangesPart, EachFileLoses, FramesLose, Loses, OnlyMarksChange, StreamLoses, VolumeLoses}
-use Rattle.fv_marks.specs.Words.{DataLose, body_kind_of}
+use Rattle.fv_marks.specs.Words.{DataLose}
 use Rattle.fv_tree.specs.Words.{bare_form, file_form}
 use Rattle.fv_tree.specs.declared.volume_files.LocatedFile.{LocatedFile}
-use Rattle.fv_file.specs.declared.state.FileState.TheVariants as states
+use Rattle.fv_tree.proofs.Laws.{no_file}
 use Rattle.fv_marks.specs.inner.MarkSteps.{IsSection}
 use Rattle.fv_marks.specs.declared.section.Section.{Section}
 use Rattle.fv_marks.proofs.PartLemmas.{only_part, only_then, three_parts}
@@ -32,16 +32,16 @@ only_on p n b0 b x before inside =
 
 -- ---- a stream
 
-module _ (inside : BodyKind → Loses) (b0 b : List ℕ) (at : ℕ)
+module _ (inside : Shape → Loses) (b0 b : List ℕ) (at : ℕ)
     (so_far : (frames : List FrameForm) (o : List ℕ) → FramesLose inside frames at b o → StreamLoses inside b0 o) where
   pub section_on : (s : Section) (f : FrameForm) (x : List ℕ) → HasFrameAt f at b → IsSection f s
-      → inside s.kind (field s.start (s.end - s.start) b) x → (frames : List FrameForm) (o : List ℕ)
+      → inside s.shape (field s.start (s.end - s.start) b) x → (frames : List FrameForm) (o : List ℕ)
       → FramesLose inside frames s.next (with_part s.start (s.end - s.start) b x) o → StreamLoses inside b0 o
   section_on s f x here is lost frames o more =
       let n : s.end - s.start ≡ length f.body = omega (arith, is.end) in
       let next : s.next ≡ up_to_4 (at + frame_len f) = is.next ∙ ap (λ (i : ℕ). up_to_4 (i + frame_len f)) here.offset in
-      let change : ChangesPart (inside (body_kind_of f)) (body_place f) (length f.body) b (with_part s.start (s.end - s.start) b x) =
-      rw (← is.kind_is, ← n, ← is.start) (x, lost, with_part_is s.start (s.end - s.start) b x) in
+      let change : ChangesPart (inside (shape_of f)) (body_place f) (length f.body) b (with_part s.start (s.end - s.start) b x) =
+      rw (← is.shape_is, ← n, ← is.start) (x, lost, with_part_is s.start (s.end - s.start) b x) in
       so_far (f ∷ frames) o (
         here,
         (
@@ -52,18 +52,6 @@ module _ (inside : BodyKind → Loses) (b0 b : List ℕ) (at : ℕ)
       )
 
 -- ---- files
-
--- the value that a loop over files reads after the last file
-abbrev pub no_file : LocatedFile
-no_file = record {
-  name = record { bytes = [] };
-  offset = 0;
-  len = 0;
-  kind = 0;
-  attributes = record { 0 = 0 };
-  header_sum = 0;
-  state = states.Free;
-}
 
 -- the number of bytes of a file's data depends only on the number of bytes that they are in
 pub data_length : (b0 b : List ℕ) (s : LocatedFile) → length b ≡ length b0
@@ -114,11 +102,11 @@ data_within b (f ∷ fs) h = (h.0.0, data_within b fs h.1)
 
 -- ---- a level
 
-pub group_lost : (n : ℕ) (b o : List ℕ) → (n ≡ 0 → ⊥) → StreamLoses (BodyLoses (n - 1)) b o → BodyLoses n bodies.Group b o
+pub group_lost : (n : ℕ) (b o : List ℕ) → (n ≡ 0 → ⊥) → StreamLoses (BodyLoses (n - 1)) b o → BodyLoses n shapes.Group b o
 group_lost zero b o some lost = absurd (some refl)
 group_lost (suc n) b o some lost = let less : suc n - 1 ≡ n = omega arith in rw less at lost
 
 pub opened_lost : (n : ℕ) (b o : List ℕ) → (n ≡ 0 → ⊥) → VolumeLoses (StreamLoses (BodyLoses (n - 1))) b o
-    → BodyLoses n bodies.Volume b o
+    → BodyLoses n shapes.Volume b o
 opened_lost zero b o some lost = absurd (some refl)
 opened_lost (suc n) b o some lost = let less : suc n - 1 ≡ n = omega arith in rw less at lost

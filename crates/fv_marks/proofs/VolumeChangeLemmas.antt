@@ -71,18 +71,20 @@ all_alike stream stay keep s p (Dead at i state ∷ cs) (d ∷ ds) (is, more) = 
 all_alike stream stay keep s p (Stub at i ∷ cs) (d ∷ ds) (is, more) = rw is (all_alike stream stay keep s p cs ds more)
 all_alike stream stay keep s p (Free at i ∷ cs) (d ∷ ds) (is, more) = rw is (all_alike stream stay keep s p cs ds more)
 
-twins_same : (f g : FileForm) → Alike f g → (fs gs : List FileForm) → Pairwise Alike fs gs
-    → list_any (is_stored_twin g) gs ≡ list_any (is_stored_twin f) fs
-twins_same f g is [] [] all = refl
-twins_same f g is [] (y ∷ gs) all = absurd all
-twins_same f g is (x ∷ fs) [] all = absurd all
-twins_same f g is (x ∷ fs) (y ∷ gs) all = rw (is.1, all.0.1, twins_same f g is fs gs all.1) refl
+-- tests that do not differ for the same header hold for a file of both lists, or for none
+any_same : (test now : FileForm → Bool) → ((f g : FileForm) → Alike f g → now g ≡ test f) → (fs gs : List FileForm)
+    → Pairwise Alike fs gs → list_any now gs ≡ list_any test fs
+any_same test now same [] [] all = refl
+any_same test now same [] (y ∷ gs) all = absurd all
+any_same test now same (x ∷ fs) [] all = absurd all
+any_same test now same (x ∷ fs) (y ∷ gs) all = rw (same x y all.0, any_same test now same fs gs all.1) refl
 
 none_twins : (fs gs : List FileForm) → Pairwise Alike fs gs → NoStoredTwins fs → NoStoredTwins gs
 none_twins [] [] all none = tt
 none_twins [] (y ∷ gs) all none = absurd all
 none_twins (x ∷ fs) [] all none = absurd all
-none_twins (x ∷ fs) (y ∷ gs) all none = (twins_same x y all.0 fs gs all.1 ∙ none.0, none_twins fs gs all.1 none.1)
+none_twins (x ∷ fs) (y ∷ gs) all none =
+    (any_same (is_stored_twin x) (is_stored_twin y) (λ f g is. rw (all.0.1, is.1) refl) fs gs all.1 ∙ none.0, none_twins fs gs all.1 none.1)
 
 still_top : (n : ℕ) (fs gs : List FileForm) → Pairwise Alike fs gs → TopAtEnd n fs → TopAtEnd n gs
 still_top n [] [] all top = tt
@@ -106,13 +108,6 @@ kept_alike keep now same [] (y ∷ gs) all = absurd all
 kept_alike keep now same (x ∷ fs) [] all = absurd all
 kept_alike keep now same (x ∷ fs) (y ∷ gs) all =
     one_alike keep now x y fs gs (keep x) all.0 refl (same x y all.0) (kept_alike keep now same fs gs all.1)
-
-superseded_same : (f g : FileForm) → Alike f g → (fs gs : List FileForm) → Pairwise Alike fs gs
-    → list_any (superseded_by g) gs ≡ list_any (superseded_by f) fs
-superseded_same f g is [] [] all = refl
-superseded_same f g is [] (y ∷ gs) all = absurd all
-superseded_same f g is (x ∷ fs) [] all = absurd all
-superseded_same f g is (x ∷ fs) (y ∷ gs) all = rw (is.1, all.0.1, superseded_same f g is fs gs all.1) refl
 
 -- ---- a volume
 
@@ -176,7 +171,9 @@ module _ (stream : Loses) (stay : SumsStay stream) (b o : List ℕ) (h : HeadFie
   now = λ (f : FileForm). not (list_any (superseded_by f) (files_in changed.cells))
 
   now_same : (f g : FileForm) → Alike f g → now g ≡ keep f
-  now_same f g is = ap not (superseded_same f g is (files_in are.cells) (files_in changed.cells) all)
+  now_same f g is =
+      ap not (any_same (superseded_by f) (superseded_by g) (λ h k alike. rw (is.1, alike.1) refl)
+      (files_in are.cells) (files_in changed.cells) all)
 
   pub became : AllByRecursion (FileBecame stream) (current_in (files_in changed.cells))
   became = files_became stream stay keep x.file_system x.polarity now

@@ -1,19 +1,19 @@
 -- Bytes without the marks of fixed files, at every depth at which a volume is read (PI specification, volume 3, section
--- 3.2.3.1, FFS_ATTRIB_FIXED). The recursion follows that of `Denotes`: a volume has files, the data of a file may be a
+-- 3.2.3.1, FFS_ATTRIB_FIXED). The recursion follows `Denotes`: a volume has files, the data of a file may be a
 -- stream of sections, and the body of a section may be a stream or a volume.
-use Rattle.std.specs.Prelude.{◌≡◌, ◌≢◌, ℕ, zero, suc, ◌+◌, ◌≤◌, ◌⊎◌, ◌==◌, ◌&&◌, if◌then◌else◌, Bool, true, false, List, [], ◌∷◌, ◌++◌, length, take}
+use Rattle.std.specs.Prelude.{◌≡◌, ◌≢◌, ℕ, zero, suc, ◌+◌, ◌≤◌, ◌⊎◌, Bool, true, false, List, [], ◌∷◌, ◌++◌, length, take}
 use Rattle.std.specs.Prelude.{drop}
 use Rattle.std.specs.List.{AllByRecursion}
 use Rattle.fv_base.specs.Words.{depth_limit, field}
 use Rattle.fv_base.specs.declared.fault.Fault.{Fault}
 use Rattle.fv_base.specs.declared.fault.FaultKind.TheVariants as kinds
 use Rattle.fv_file.specs.Words.{IsFirstCellFault, unmarked}
-use Rattle.fv_head.specs.Words.{BeginsWithHeader, is_one_volume}
+use Rattle.fv_head.specs.Words.{BeginsWithHeader}
 use Rattle.fv_head.specs.declared.extent.Extent.{Extent}
 use Rattle.fv_section.specs.Words.{FrameForm, HasFrameAt, frame_len, up_to_4}
-use Rattle.fv_tree.specs.Words.{BeginWithFiles, FileForm, Unfixes, body_place, data_place, group_kind, holds_sections, volume_kind}
-use Rattle.fv_marks.specs.declared.section.BodyKind.{BodyKind}
-use Rattle.fv_marks.specs.declared.section.BodyKind.TheVariants as bodies
+use Rattle.fv_tree.specs.Words.{BeginWithFiles, FileForm, Unfixes, body_place, data_place, holds_sections, shape_of}
+use Rattle.fv_tree.specs.declared.shape.Shape.{Shape}
+use Rattle.fv_tree.specs.declared.shape.Shape.TheVariants as shapes
 
 -- a relation of two things: some bytes, and the bytes that they become
 abbrev pub Loses : Type 1
@@ -60,35 +60,29 @@ VolumeLoses stream b o = (m : List ℕ) × LosesOwn b m × FilesLose stream m o
 
 -- ---- one stream
 
--- how the body of the section in a frame is read: as sections, as a volume, or as plain bytes
-abbrev pub body_kind_of : FrameForm → BodyKind
-body_kind_of f =
-    if f.kind == group_kind then bodies.Group
-    else (if (f.kind == volume_kind) && is_one_volume f.body then bodies.Volume else bodies.Leaf)
-
 -- o is b after the bodies of these frames changed, one frame after another, the first at the offset `at`. After the last
 -- of them, no frame begins. How a body changes depends on how it is read
-abbrev pub FramesLose : (BodyKind → Loses) → List FrameForm → ℕ → Loses
+abbrev pub FramesLose : (Shape → Loses) → List FrameForm → ℕ → Loses
 FramesLose inside [] at b o = ((g : FrameForm) → HasFrameAt g at b → ⊥) × (o ≡ b)
 FramesLose inside (f ∷ fs) at b o =
     HasFrameAt f at b
-    × ((m : List ℕ) × ChangesPart (inside (body_kind_of f)) (body_place f) (length f.body) b m
+    × ((m : List ℕ) × ChangesPart (inside (shape_of f)) (body_place f) (length f.body) b m
     × FramesLose inside fs (up_to_4 (at + frame_len f)) m o)
 
 -- o is b after the bodies of the frames of the stream b changed, as far as frames begin where they should
-abbrev pub StreamLoses : (BodyKind → Loses) → Loses
+abbrev pub StreamLoses : (Shape → Loses) → Loses
 StreamLoses inside b o = (frames : List FrameForm) × FramesLose inside frames 0 b o
 
 -- ---- the recursion
 
 -- the body of a section that is read in this way changes: a group as a stream, and an opened volume as a volume, if
 -- groups and opened volumes may nest n deep. A leaf stays the same, and so does a body that is nested deeper
-abbrev pub BodyLoses : ℕ → BodyKind → Loses
-BodyLoses n bodies.Leaf b o = o ≡ b
-BodyLoses zero bodies.Group b o = o ≡ b
-BodyLoses zero bodies.Volume b o = o ≡ b
-BodyLoses (suc n) bodies.Group b o = StreamLoses (BodyLoses n) b o
-BodyLoses (suc n) bodies.Volume b o = VolumeLoses (StreamLoses (BodyLoses n)) b o
+abbrev pub BodyLoses : ℕ → Shape → Loses
+BodyLoses n shapes.Leaf b o = o ≡ b
+BodyLoses zero shapes.Group b o = o ≡ b
+BodyLoses zero shapes.Volume b o = o ≡ b
+BodyLoses (suc n) shapes.Group b o = StreamLoses (BodyLoses n) b o
+BodyLoses (suc n) shapes.Volume b o = VolumeLoses (StreamLoses (BodyLoses n)) b o
 
 -- o is the stream b without the marks of fixed files at every depth
 abbrev pub StreamLosesMarks : Loses

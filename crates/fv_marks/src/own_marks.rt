@@ -1,13 +1,12 @@
 //! Taking the marks away from the fixed files of one volume.
 
 ghost use Rattle.std.specs.Prelude.{◌≡◌, ◌+◌, ◌<◌, ◌≤◌, ◌%◌, ◌^◌, [], length, drop, slice_index, IfOk, IfErr, IfSome, IfNone};
-ghost use Rattle.fv_file.specs.Words.{cell_form, cell_len, unmarked};
+ghost use Rattle.fv_file.specs.Words.{unmarked};
 ghost use Rattle.fv_marks.specs.LostMarks.{LosesOwn};
 ghost use Rattle.fv_marks.specs.inner.MarkSteps.{BodyUnmarked, CellOf, MarkLost, NextFaultAt, WalkEnds};
 
-use fv_base::field::up_to_8;
 use fv_base::{Fault, FaultKind, FileSystem, Polarity};
-use fv_file::{Cell, CellWalk};
+use fv_file::{CellWalk, span_of};
 use fv_head::verify_fv;
 
 // The bit of a file's attributes that marks the file as fixed: `FFS_ATTRIB_FIXED`.
@@ -17,17 +16,6 @@ const FIXED: u8 = 0x04;
 const HEADER_SUM_OFFSET: usize = 16;
 
 const ATTRIBUTES_OFFSET: usize = 19;
-
-// Returns the length of a cell in bytes, including its filler.
-fn span_of(cell: &Cell) -> u64
-    requires { cell_len (cell_form cell.now) < 2 ^ 63 }
-    ensures { result ≡ cell_len (cell_form cell.now) }
-{
-    match cell {
-        Cell::Valid { head, .. } | Cell::Pad { head, .. } => up_to_8(head.size),
-        Cell::Dead { len, .. } | Cell::Stub { len, .. } | Cell::Free { len, .. } => *len,
-    }
-}
 
 // Returns the length of the cell at the offset `at`, including its filler, None at the end of the
 // volume, or the fault of this cell. `volume` is exactly the bytes of a volume.

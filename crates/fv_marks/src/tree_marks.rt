@@ -8,27 +8,27 @@ ghost use Rattle.fv_marks.specs.LostMarks.{StreamLosesMarks, VolumeLosesMarks};
 ghost use Rattle.fv_tree.specs.Words.{Denotes, Meaning, SectionMeaning, Stream, bare_form, data_place, file_form, holds_sections};
 
 use crate::own_marks::take_own_marks;
-use crate::section::{BodyKind, holds_sections, section_at};
+use crate::section::section_at;
 use fv_base::limits::DEPTH_LIMIT;
 use fv_base::{Fault, FaultKind};
-use fv_tree::{LocatedFile, located_files};
+use fv_tree::{LocatedFile, Shape, holds_sections, located_files};
 use std::alloc::Global;
 
 // Takes the marks away in the body of a section. Groups and opened volumes in the body, including
 // the body itself, may nest `left` deep. A body that is nested deeper stays as it is.
 #[cycle(marks)]
-fn take_in_body(alloc: Global, body: &mut [u8], kind: BodyKind, left: u8) -> Result<(), Fault>
-    ensures lost { OnOk result (BodyLoses left kind body.old body.new) }
+fn take_in_body(alloc: Global, body: &mut [u8], shape: Shape, left: u8) -> Result<(), Fault>
+    ensures lost { OnOk result (BodyLoses left shape body.old body.new) }
     ensures only { OnlyMarksChange body.old body.new }
     ensures memory { IfErr result (λ f. f ≡ out_of_memory) }
 {
     if left == 0 {
         return Ok(());
     }
-    match kind {
-        BodyKind::Leaf => Ok(()),
-        BodyKind::Group => take_in_stream(alloc, body, left - 1),
-        BodyKind::Volume => take_in_volume(alloc, body, left - 1),
+    match shape {
+        Shape::Leaf => Ok(()),
+        Shape::Group => take_in_stream(alloc, body, left - 1),
+        Shape::Volume => take_in_volume(alloc, body, left - 1),
     }
 }
 
@@ -42,7 +42,7 @@ fn take_in_stream(alloc: Global, stream: &mut [u8], left: u8) -> Result<(), Faul
     let mut at = 0;
     while let Some(section) = section_at(stream, at) {
         let body = &mut stream[section.start..section.end];
-        take_in_body(alloc, body, section.kind, left)?;
+        take_in_body(alloc, body, section.shape, left)?;
         at = section.next;
     }
     Ok(())

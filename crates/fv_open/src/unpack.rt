@@ -1,6 +1,7 @@
 //! Decoding of packed data.
 
-ghost use Rattle.std.specs.Prelude.{◌≡◌, ◌≢◌, ◌⊎◌, ◌+◌, ◌<◌, ◌≤◌, ◌^◌, length, drop, false, true, IfSome, IfNone, Ok, Err, IfOk, IfErr, IsTrue};
+ghost use Rattle.std.specs.Prelude.{◌≡◌, ◌≢◌, ◌⊎◌, ◌+◌, ◌<◌, ◌≤◌, ◌^◌, length, drop, false, true};
+ghost use Rattle.std.specs.Prelude.{IfSome, IfNone, Ok, Err, IfOk, IfErr, IsTrue};
 ghost use Rattle.fv_lzma.specs.Words.{lzma};
 ghost use Rattle.fv_packed.specs.Words.{packed_out_of_memory};
 ghost use Rattle.fv_tiano.specs.Words.{tiano, bits_of};
@@ -110,7 +111,8 @@ pub(crate) fn lzma_x86(alloc: Global, bytes: &[u8], limit: usize) -> Result<Vec<
 
 // Returns the contents by the compression of the UEFI specification, if they are a stream of sections.
 fn uefi_sections(alloc: Global, bytes: &[u8], limit: usize) -> Result<Option<Vec<u8>>, PackedFault>
-    ensures some { IfOk result (λ o. IfSome o (λ v. (tiano (bits_of widths.Uefi) limit bytes.now ≡ Ok v.items) × (is_stream v.items ≡ true))) }
+    ensures some { IfOk result (λ o. IfSome o (λ v.
+        (tiano (bits_of widths.Uefi) limit bytes.now ≡ Ok v.items) × (is_stream v.items ≡ true))) }
     ensures none { IfOk result (λ o. IfNone o (IsOther (tiano (bits_of widths.Uefi) limit bytes.now))) }
     ensures memory { IfErr result (λ f. f ≡ packed_out_of_memory) }
 {

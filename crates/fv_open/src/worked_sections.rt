@@ -1,6 +1,6 @@
 //! Worked sections: small sections, byte by byte, with their contents or their first fault. They show
 //! that each way opens a section, and that each fault can be the first fault. The functions do
-//! nothing: their contracts are the sections. The sums of the bytes are those of zlib.
+//! nothing: their contracts are the sections. The sums of the bytes are from zlib.
 
 ghost use Rattle.std.specs.Prelude.{◌≡◌, ◌∷◌, ◌++◌, [], drop, replicate};
 ghost use Rattle.fv_open.specs.Contents.{opened};

@@ -155,16 +155,16 @@ fn put_rows<S: Sink>(
 /// not opened, or its contents are not a stream of sections, its line says why. Returns whether
 /// memory ran out, which such a line says too.
 ///
-/// The contents of a section have at most 268,435,456 bytes, and those of all sections together at
-/// most 1,073,741,824 bytes, where an opened section counts for at least 65,536 bytes, and a section
-/// that a decoder rejects for 16,777,216 bytes. Packed sections nest at most 8 deep. A section that
-/// exceeds these limits is not opened. An offset that counts from the start of the section, or of its
-/// contents, is marked with `+`.
+/// The contents of a section have at most 268,435,456 bytes, and the contents of all sections
+/// together at most 1,073,741,824 bytes, where an opened section counts for at least 65,536 bytes, and
+/// a section that a decoder rejects for 16,777,216 bytes. Packed sections nest at most 8 deep. A
+/// section that exceeds these limits is not opened. An offset that counts from the start of the
+/// section, or of its contents, is marked with `+`.
 ///
 /// While the lines of the sections in some contents are put, these contents and the views of the
-/// volumes in them are in memory, and so are those of the packed sections around them. Contents that
-/// are not decoded stay where they are: they take no memory. (PI specification, volume 3, sections
-/// 3.2.4, 3.2.5.2 and 3.2.5.7.)
+/// volumes in them are in memory, and so are the contents and views of the packed sections around
+/// them. Contents that are not decoded stay where they are: they take no memory. (PI specification,
+/// volume 3, sections 3.2.4, 3.2.5.2 and 3.2.5.7.)
 pub fn put_opened_list<S: Sink>(alloc: Global, volume: &VolumeView<'_>, out: &mut S) -> bool
     ensures { (text : List ℕ) × OpenedListText volume.now result text × S.takes out.old text out.new }
 {

@@ -5,7 +5,7 @@ use fv_crc32::crc32;
 use std::alloc::Global;
 
 // Returns bytes and their sums. A line is a name, a colon, the words of the bytes, an arrow, and the
-// sum as 8 hexadecimal digits, which is that of zlib 1.2.13. The words have the meaning that
+// sum as 8 hexadecimal digits, as zlib 1.2.13 gives it. The words have the meaning that
 // `spelled_bytes` gives them.
 fn sums() -> &'static str {
     "\

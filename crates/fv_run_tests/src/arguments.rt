@@ -2,6 +2,7 @@
 
 use fv_arguments::parse_words;
 use fv_base::Guid;
+use fv_plan::Plan;
 use std::alloc::Global;
 
 /// The GUID that NAME means in a command line.
@@ -26,11 +27,20 @@ pub(crate) fn arguments_of(alloc: Global, line: &str) -> Option<Vec<String>> {
     Some(arguments)
 }
 
+// Returns whether a plan is shown as this text.
+fn is_shown_as(alloc: Global, plan: &Plan, wanted: &str) -> bool {
+    match format!(in alloc; "{plan:?}") {
+        Ok(shown) => shown.as_str() == wanted,
+        Err(_) => false,
+    }
+}
+
 // Returns whether the arguments ask for a plan that is shown as this text.
-fn ask_for(alloc: Global, arguments: &[String], wanted: &str) -> Option<bool> {
-    let plan = parse_words(alloc, arguments).ok()?;
-    let shown = format!(in alloc; "{plan:?}").ok()?;
-    Some(shown.as_str() == wanted)
+fn ask_for(alloc: Global, arguments: &[String], wanted: &str) -> bool {
+    match parse_words(alloc, arguments) {
+        Ok(plan) => is_shown_as(alloc, &plan, wanted),
+        Err(_) => false,
+    }
 }
 
 // Returns the plan of a row, in which NAME is replaced by that GUID as it is shown.
@@ -146,7 +156,7 @@ fn asks_for_its_plan(alloc: Global, row: &str) -> Option<bool> {
     let (line, plan) = row.split_once(": ")?;
     let wanted = with_name(alloc, plan)?;
     let arguments = arguments_of(alloc, line)?;
-    ask_for(alloc, &arguments, &wanted)
+    Some(ask_for(alloc, &arguments, &wanted))
 }
 
 #[test]

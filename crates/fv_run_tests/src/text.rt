@@ -56,20 +56,20 @@ fn are_written_by_steps(alloc: Global, bytes: &[u8], wanted: &[u8], step: usize)
     true
 }
 
-#[test]
-fn bytes_are_written_as_lines(rt: HostRuntime) {
-    let cases: [(&[u8], &[u8]); 4] = [
-        (b"", b""),
-        (b"\xff", b"ff\n"),
-        (FULL, FULL_LINE),
-        (THREE_COPIES_AND_2_BYTES, THREE_LINES_AND_2_BYTES),
-    ];
-    for (bytes, wanted) in cases {
-        for step in STEPS {
-            assert!(rt;
-                are_written_by_steps(rt.alloc(), bytes, wanted, step),
-                "{bytes:?} {step}"
-            );
+// Returns whether bytes are written as these lines, with steps of each size.
+fn are_written(alloc: Global, bytes: &[u8], wanted: &[u8]) -> bool {
+    for step in STEPS {
+        if !are_written_by_steps(alloc, bytes, wanted, step) {
+            return false;
         }
     }
+    true
+}
+
+#[test]
+fn bytes_are_written_as_lines(rt: HostRuntime) {
+    let alloc = rt.alloc();
+    assert!(rt; are_written(alloc, b"", b"") && are_written(alloc, b"\xff", b"ff\n"));
+    assert!(rt; are_written(alloc, FULL, FULL_LINE));
+    assert!(rt; are_written(alloc, THREE_COPIES_AND_2_BYTES, THREE_LINES_AND_2_BYTES));
 }

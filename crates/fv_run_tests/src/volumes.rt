@@ -5,24 +5,20 @@
 //! Each table is a single text that only one function names: a function that names many texts is
 //! far slower to prove.
 
-/// The name of a line, its words, and the text after the arrow.
-pub(crate) type Row<'a> = (&'a str, &'a str, Option<&'a str>);
-
-/// Returns the row that a line spells.
-pub(crate) fn row_of(line: &str) -> Option<Row<'_>> {
-    let (name, rest) = line.split_once(": ")?;
-    match rest.split_once(" -> ") {
-        Some((text, result)) => Some((name, text, Some(result))),
-        None => Some((name, rest, None)),
+// Returns the words of a text, which end at an arrow if it has one.
+fn words_of(text: &str) -> &str {
+    match text.split_once(" -> ") {
+        Some((words, _)) => words,
+        None => text,
     }
 }
 
 /// Returns the words of the line with this name.
 pub(crate) fn text_named<'a>(table: &'a str, wanted: &str) -> Option<&'a str> {
     for line in table.lines() {
-        let (name, text, _) = row_of(line)?;
+        let (name, text) = line.split_once(": ")?;
         if name == wanted {
-            return Some(text);
+            return Some(words_of(text));
         }
     }
     None

@@ -113,9 +113,9 @@ pub whole_within : (fs : List FrameForm) (t : ℕ) (b : List ℕ) → Splits fs 
 whole_within fs t b h = grind (arith, common_steps, all_within)
 
 -- after the first frame of a stream, the other frames split the rest
-behind_first : (at : ℕ) (f : FrameForm) (fs : List FrameForm) (t : ℕ) (b : List ℕ) → SplitsFrom at (f ∷ fs) t (drop at b)
+pub others_split : (at : ℕ) (f : FrameForm) (fs : List FrameForm) (t : ℕ) (b : List ℕ) → SplitsFrom at (f ∷ fs) t (drop at b)
     → (u : ℕ) × SplitsFrom (up_to_4 (at + frame_len f)) fs u (drop (up_to_4 (at + frame_len f)) b)
-behind_first at f [] t b (rest, begun, o, l, fit) =
+others_split at f [] t b (rest, begun, o, l, fit) =
     let next : ℕ = up_to_4 (at + frame_len f) in
     let past : length (drop next b) ≡ 0 =
     omega (arith, length_begun f (drop at b) rest begun, length-drop at b, fit, l, length-drop next b) in
@@ -124,7 +124,7 @@ behind_first at f [] t b (rest, begun, o, l, fit) =
     none : (l : List ℕ) → length l ≡ 0 → l ≡ []
     none [] e = refl
     none (x ∷ xs) e = absurd (omega (arith, e))
-behind_first at f (g ∷ fs) t b (filler, rest, begun, o, fill, more) =
+others_split at f (g ∷ fs) t b (filler, rest, begun, o, fill, more) =
     let x : List ℕ = begun.head ++ (f.body ++ filler) in
     let text : drop at b ≡ x ++ rest =
     begun.text ∙ ap (λ l. begun.head ++ l) (sym (append_assoc f.body filler rest))
@@ -141,7 +141,7 @@ from_stands : (at : ℕ) (fs : List FrameForm) (t : ℕ) (b : List ℕ) → Spli
 from_stands at [] t b split = tt
 from_stands at (f ∷ fs) t b split =
     let stands = first_stands at f fs t b split in
-    let rest = behind_first at f fs t b split in
+    let rest = others_split at f fs t b split in
     (subst (λ n. HasFrameAt f n b) (sym stands.offset) stands, from_stands (up_to_4 (at + frame_len f)) fs rest.0 b rest.1)
 
 pub split_stands : (fs : List FrameForm) (t : ℕ) (b : List ℕ) → Splits fs t b → AllByRecursion (λ f. HasFrameAt f f.offset b) fs
@@ -158,7 +158,7 @@ walk_meets at (f ∷ fs) t b split =
     let is : frame_in at (drop at b) ≡ f =
     ap (λ n. frame_in n (drop at b)) (sym stands.offset) ∙ (frame_reads f (drop at b) stands.rest stands.begins).frame_is in
     let next : offset_after at b ≡ up_to_4 (at + frame_len f) = ap (λ g. up_to_4 (at + frame_len g)) is in
-    let rest = behind_first at f fs t b split in
+    let rest = others_split at f fs t b split in
     let more = walk_meets (up_to_4 (at + frame_len f)) fs rest.0 b rest.1 in
     rw (next, is) (ap (λ l. f ∷ l) more.0, (stands, more.1))
 

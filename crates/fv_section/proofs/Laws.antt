@@ -28,6 +28,8 @@ pub use Rattle.fv_section.proofs.DecidedLemmas.{stream_decided}
 pub use Rattle.fv_section.proofs.StreamLemmas.{tail_small}
 -- Each frame of a stream begins at its offset.
 pub use Rattle.fv_section.proofs.FrameWalkLemmas.{split_stands}
+-- A stream begins with its first frame, and the other frames split the bytes after that frame and its filler.
+pub use Rattle.fv_section.proofs.FrameWalkLemmas.{begins_of, others_split}
 -- ---- streams that are written
 
 -- Frames that are written one after another are read again as the same frames.

@@ -2,8 +2,8 @@
 use Rattle.std.proofs.Common.{◌≡◌, ◌≤◌, ℕ, ◌+◌, List, [], ◌∷◌, ◌++◌, Bool, true, false, refl, sym, ap, ◌∙◌, subst, arith, append_assoc}
 use Rattle.std.proofs.lemmas.List.Elements.{filter-append}
 use Rattle.fv_survey.specs.declared.row.Row.{Row}
-use Rattle.fv_survey.specs.Words.{is_leaf, Follow, leaves_of, Forest, Bare, Tree, rows_of, Nest}
-use Rattle.fv_survey.specs.inner.Growth.{joined}
+use Rattle.fv_survey.specs.Words.{Bare, Follow, Forest, Nest, Tree, is_leaf, leaves_of, rows_of}
+use Rattle.fv_survey.specs.inner.Joining.{joined}
 
 -- the rows of two joined forests
 pub rows_joined : (f g : Forest) → rows_of (joined f g) ≡ rows_of f ++ rows_of g

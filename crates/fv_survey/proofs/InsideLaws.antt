@@ -3,7 +3,7 @@ use Rattle.std.proofs.Common.{◌≡◌, ◌≤◌, ◌<◌, ℕ, ◌+◌, List,
 use Rattle.std.proofs.Common.{nat_lt, lt-ltb}
 use Rattle.fv_base.proofs.Laws.{nat_tests}
 use Rattle.fv_survey.specs.declared.row.Row.{Row}
-use Rattle.fv_survey.specs.Words.{is_leaf, Follow, leaves_of, Forest, Bare, Tree, rows_of, Nest, rows_below, TileEach}
+use Rattle.fv_survey.specs.Words.{Bare, Follow, Forest, Nest, TileEach, Tree, is_leaf, leaves_of, rows_below, rows_of}
 use Rattle.fv_survey.proofs.ForestLaws.{leaves_follow}
 
 below_deeper : (depth : ℕ) (row : Row) (rows : List Row) → depth < row.depth → rows_below depth (row ∷ rows) ≡ row ∷ rows_below depth rows

@@ -49,3 +49,8 @@ files_by b =
 abbrev pub is_known : Files → Bool
 is_known files.Unknown = false
 is_known _ = true
+
+-- a volume with this FileSystemGuid breaks no rule by it: the file system is FFS2 or FFS3, or the volume is a variable
+-- store
+abbrev pub is_allowed : List ℕ → Bool
+is_allowed b = bytes_eq b (system_guid systems.Ffs2) || bytes_eq b (system_guid systems.Ffs3) || bytes_eq b variables_guid

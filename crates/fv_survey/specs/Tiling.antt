@@ -26,13 +26,14 @@ leaves_of rows = filter (λ row. is_leaf row.kind) rows
 abbrev pub Tile : ℕ → List Row → Type 0
 Tile n rows = Follow 0 n (leaves_of rows)
 
--- the first of these rows that are deeper than `depth`: if a row of this depth comes before them, these are the rows in it
+-- the first of these rows that are deeper than `depth`: if a row of this depth comes before them, these are the rows
+-- in it
 abbrev pub rows_below : ℕ → List Row → List Row
 rows_below depth [] = []
 rows_below depth (row ∷ rows) = if nat_lt depth row.depth then row ∷ rows_below depth rows else []
 
--- the rows in each row are the deeper rows after it, up to the first row that is not deeper. Their leaf rows lie one after
--- another from the first byte of the row to its end. A leaf row contains no rows
+-- the rows in each row are the deeper rows after it, up to the first row that is not deeper. Their leaf rows lie one
+-- after another from the first byte of the row to its end. A leaf row contains no rows
 abbrev pub TileEach : List Row → Type 0
 TileEach [] = Unit {0}
 TileEach (row ∷ rows) =

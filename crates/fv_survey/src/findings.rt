@@ -1,7 +1,7 @@
 //! The findings of a row: which rules of the strict reader the bytes break.
 
-ghost use Rattle.std.specs.Prelude.{◌≡◌, ◌==◌, bit_or, if◌then◌else◌};
-ghost use Rattle.fv_survey.specs.FindingSets.{bit_of_kind, bits_of, has_finding};
+ghost use Rattle.std.specs.Prelude.{◌≡◌, ◌==◌};
+ghost use Rattle.fv_survey.specs.FindingSets.{bit_of_kind, bits_of, has_finding, only, united, with_if, with_kind};
 
 use fv_base::FaultKind;
 
@@ -51,14 +51,14 @@ impl Findings {
 
     /// Returns the set of one kind.
     pub fn of(kind: FaultKind) -> Findings
-        ensures { bits_of result ≡ bit_of_kind kind }
+        ensures { result ≡ only kind }
     {
         Findings { bits: bit_of(kind) }
     }
 
     /// Returns the set with one more kind.
     pub fn with(self, kind: FaultKind) -> Findings
-        ensures { bits_of result ≡ bit_or (bits_of self) (bit_of_kind kind) }
+        ensures { result ≡ with_kind kind self }
     {
         Findings {
             bits: self.bits | bit_of(kind),
@@ -67,9 +67,18 @@ impl Findings {
 
     /// Returns the set with one more kind, if `broken` is true.
     pub fn with_if(self, broken: bool, kind: FaultKind) -> Findings
-        ensures { bits_of result ≡ (if broken then bit_or (bits_of self) (bit_of_kind kind) else bits_of self) }
+        ensures { result ≡ with_if broken kind self }
     {
         if broken { self.with(kind) } else { self }
+    }
+
+    // Returns the kinds of both sets.
+    pub(crate) fn union(self, other: Findings) -> Findings
+        ensures { result ≡ united self other }
+    {
+        Findings {
+            bits: self.bits | other.bits,
+        }
     }
 
     /// Returns whether the set is empty.

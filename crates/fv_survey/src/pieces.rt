@@ -1,16 +1,29 @@
 //! The pieces of a volume's body: its cells, and what is there in place of a cell.
 
-ghost use Rattle.std.specs.Prelude.{◌≡◌, ◌+◌, ◌%◌, ◌≤◌, ◌<◌, true, false, length, IfSome};
-ghost use Rattle.fv_survey.specs.inner.Pieces.{IsPiece, is_node};
+ghost use Rattle.std.specs.Prelude.{◌≡◌, ◌%◌, ◌≤◌, ◌<◌, true, length, take, IfSome, None};
+ghost use Rattle.fv_base.specs.Words.{all_are, erased_byte, le_at};
+ghost use Rattle.fv_file.specs.Words.{file_header_len_at, header_sum_of, leading_count, skips_data};
+ghost use Rattle.fv_survey.specs.PieceRules as rules;
+ghost use Rattle.fv_survey.specs.inner.Pieces.{IsPiece};
+ghost use Rattle.fv_survey.specs.PieceRules.{piece_by};
 
-use crate::account::no_name;
 use crate::findings::Findings;
+use crate::portion::no_name;
 use crate::systems::Files;
-use fv_base::field::{field, u32_at, u64_at, up_to_8};
-use fv_base::{Fault, FaultKind, FileSystem, Guid, Polarity, guid_at, sum8};
+use fv_base::field::{bytes_from, field, u32_at, u64_at, up_to_8};
+use fv_base::{FaultKind, FileSystem, Guid, Polarity, all_are, guid_at, sum8};
 use fv_file::file_type::FFS_PAD;
 use fv_file::offsets::{HEADER_LEN, LARGE_HEADER_LEN, STATE_OFFSET};
-use fv_file::{Cell, CellWalk, FileState, file_state};
+use fv_file::{CellWalk, FileState, file_state};
+
+// How the cells of a body are read: the file system, the erase polarity, and whether the volume is
+// cut off.
+#[derive(Clone, Copy)]
+pub(crate) struct Layout {
+    pub(crate) files: Files,
+    pub(crate) polarity: Polarity,
+    pub(crate) is_cut: bool,
+}
 
 // What a piece is.
 #[derive(Clone, Copy, Debug, PartialEq, Eq)]
@@ -33,15 +46,21 @@ pub(crate) struct Piece {
     pub(crate) code: u8,
     pub(crate) findings: Findings,
     pub(crate) name: Guid,
+    // Whether the piece is a file, and its state, by the bits that count, is marked for update.
+    pub(crate) is_marked: bool,
+}
+
+// The length of a file's header, and the size of the file, which the header states.
+#[derive(Clone, Copy)]
+struct Sizes {
+    header: usize,
+    size: u64,
 }
 
 // Returns a piece that has no header and no name.
+#[tactic(auto, unfolding(crate::specs::PieceRules::plain_piece))]
 fn plain(sort: Sort, span: usize, findings: Findings) -> Piece
-    requires { is_node sort ≡ false }
-    ensures header { result.header ≤ result.size }
-    ensures size { result.size ≤ result.span }
-    ensures span { result.span ≡ span }
-    ensures sort { result.sort ≡ sort }
+    ensures { result ≡ rules.plain_piece sort span findings }
 {
     Piece {
         sort,
@@ -51,151 +70,188 @@ fn plain(sort: Sort, span: usize, findings: Findings) -> Piece
         code: 0,
         findings,
         name: no_name(),
+        is_marked: false,
     }
 }
 
-// Where a header says that its file lies: its length and the file's size, if they are possible.
-#[derive(Clone, Copy)]
-struct Sizes {
-    header: usize,
-    size: u64,
-}
-
-// Returns the sizes in the header at the start of the bytes. A large header has 32 bytes in FFS3;
-// in other volumes with Size 0 it has 28, with the size in the last 4.
-fn sizes_at(rest: &[u8], files: Files) -> Sizes
+// Returns the field `Size` of the header at the start of the bytes.
+fn short_size(rest: &[u8]) -> u64
     requires { 24 ≤ length rest.now }
-    ensures { 24 ≤ result.header }
+    ensures { result ≡ le_at 20 3 rest.now }
 {
-    let low = field(rest, 20, 3);
-    let short = u64::from(low[0]) + u64::from(low[1]) * 256 + u64::from(low[2]) * 65536;
-    let is_large = rest[19] & 1 != 0 && files != Files::Ffs1;
-    if is_large && files == Files::Ffs3 && rest.len() >= LARGE_HEADER_LEN {
-        return Sizes {
-            header: LARGE_HEADER_LEN,
-            size: u64_at(rest, 24),
-        };
+    let size = field(rest, 20, 3);
+    u64::from(u32::from_le_bytes([size[0], size[1], size[2], 0]))
+}
+
+// Returns the length of the header at the start of the bytes.
+fn header_at(rest: &[u8], files: Files) -> usize
+    requires { 24 ≤ length rest.now }
+    ensures { result ≡ rules.header_len_by files rest.now }
+{
+    if rest[19] % 2 != 1 {
+        return HEADER_LEN;
     }
-    if is_large && short == 0 && rest.len() >= 28 {
-        return Sizes {
-            header: 28,
-            size: u64::from(u32_at(rest, 24)),
-        };
+    match files {
+        Files::Ffs3 => LARGE_HEADER_LEN,
+        Files::Ffs1 => HEADER_LEN,
+        Files::Ffs2 | Files::Store | Files::Unknown => {
+            if short_size(rest) == 0 {
+                28
+            } else {
+                HEADER_LEN
+            }
+        }
     }
+}
+
+// Returns the size of a file whose header has this length.
+fn size_at(rest: &[u8], header: usize) -> u64
+    requires least { 24 ≤ length rest.now }
+    requires multiple { length rest.now % 8 ≡ 0 }
+    ensures { result ≡ rules.size_by header rest.now }
+{
+    if header == HEADER_LEN {
+        short_size(rest)
+    } else if rest.len() < LARGE_HEADER_LEN {
+        0
+    } else if header == 28 {
+        u64::from(u32_at(rest, 24))
+    } else {
+        u64_at(rest, 24)
+    }
+}
+
+// Returns the sizes in the header at the start of the bytes.
+#[tactic(auto, unfolding(crate::specs::PieceRules::sizes_by))]
+fn sizes_at(rest: &[u8], files: Files) -> Sizes
+    requires least { 24 ≤ length rest.now }
+    requires multiple { length rest.now % 8 ≡ 0 }
+    ensures sizes { result ≡ rules.sizes_by files rest.now }
+    ensures least { 24 ≤ result.header }
+{
+    let header = header_at(rest, files);
     Sizes {
-        header: HEADER_LEN,
-        size: short,
+        header,
+        size: size_at(rest, header),
     }
 }
 
-// Returns whether the sizes are possible.
-fn fit(sizes: Sizes, rest: &[u8]) -> bool
-    ensures { result ≡ true → (sizes.header ≤ sizes.size) × (sizes.size ≤ length rest.now) }
+// Returns whether the size is at least the length of the header, and at most `len`.
+fn fits(sizes: Sizes, len: usize) -> bool
+    ensures { result ≡ rules.fits sizes len }
 {
-    sizes.header as u64 <= sizes.size && sizes.size <= rest.len() as u64
+    sizes.header as u64 <= sizes.size && sizes.size <= len as u64
 }
 
-// Returns whether the header sums to zero, with the file checksum and State taken as zero.
-fn has_header_sum(rest: &[u8], header: usize) -> bool
-    requires least { 24 ≤ header }
-    requires within { header ≤ length rest.now }
+// Returns the sum of a header's bytes, with the file checksum and State taken as zero.
+fn header_sum(header: &[u8]) -> u8
+    requires { 24 ≤ length header.now }
+    ensures { result ≡ header_sum_of header.now }
 {
-    let sum = sum8(&rest[..17])
-        .wrapping_add(sum8(&rest[18..23]))
-        .wrapping_add(sum8(&rest[24..header]));
-    sum == 0
+    sum8(&header[..17])
+        .wrapping_add(sum8(field(header, 18, 5)))
+        .wrapping_add(sum8(bytes_from(header, HEADER_LEN)))
 }
 
-// Returns whether a file checksum without the checksum attribute is one of those that tools write.
+// Returns whether the header lies within the bytes and sums to zero.
+#[tactic(auto, unfolding(crate::specs::PieceRules::sums_to_zero))]
+fn sums_to_zero(rest: &[u8], header: usize) -> bool
+    requires { 24 ≤ header }
+    ensures zero { result ≡ rules.sums_to_zero header rest.now }
+    ensures within { result ≡ true → header ≤ length rest.now }
+{
+    header <= rest.len() && header_sum(&rest[..header]) == 0
+}
+
+// Returns whether a file checksum covers the data, or is one that tools write if it does not.
 fn is_usual_sum(rest: &[u8]) -> bool
     requires { 24 ≤ length rest.now }
+    ensures { result ≡ rules.is_usual_sum rest.now }
 {
-    rest[19] & 0x40 != 0 || rest[17] == 0xaa || rest[17] == 0x5a || rest[17] == 0
+    rest[19] / 64 % 2 == 1 || rest[17] == 0xaa || rest[17] == 0x5a || rest[17] == 0
 }
 
-// Returns whether a type is one of those that the specification defines or leaves to others.
-fn is_usual_type(kind: u8) -> bool {
-    (1 <= kind && kind <= 0x0f) || kind >= 0xc0
+// Returns whether a type is one that the specification defines or leaves to others.
+fn is_usual_type(kind: u8) -> bool
+    ensures { result ≡ rules.is_usual_type kind }
+{
+    (1 <= kind && kind <= 0x0f) || 0xc0 <= kind
+}
+
+// Returns whether a state is usual in a file that was written.
+fn is_usual_state(state: Option<FileState>) -> bool
+    ensures { result ≡ rules.is_usual_state state }
+{
+    matches!(
+        state,
+        Some(FileState::DataValid | FileState::Marked | FileState::Deleted)
+    )
 }
 
 // Returns whether the bytes begin with a file header that shows no fault, apart from its header
 // checksum.
-fn has_usable_header(rest: &[u8], files: Files, polarity: Polarity) -> bool
-    ensures { result ≡ true → 24 ≤ length rest.now }
+#[tactic(auto, unfolding(crate::specs::PieceRules::has_usable_header))]
+fn has_usable_header(rest: &[u8], layout: Layout) -> bool
+    requires { length rest.now % 8 ≡ 0 }
+    ensures usable { result ≡ rules.has_usable_header layout rest.now }
+    ensures long { result ≡ true → 24 ≤ length rest.now }
 {
-    if rest.len() < HEADER_LEN {
-        return false;
-    }
-    let is_written = matches!(
-        file_state(rest[STATE_OFFSET], polarity),
-        Some(FileState::DataValid | FileState::Marked | FileState::Deleted)
-    );
-    if !is_written || !is_usual_type(rest[18]) || !is_usual_sum(rest) {
-        return false;
-    }
-    fit(sizes_at(rest, files), rest)
+    rest.len() >= HEADER_LEN
+        && is_usual_state(file_state(rest[STATE_OFFSET], layout.polarity))
+        && is_usual_type(rest[18])
+        && is_usual_sum(rest)
+        && fits(sizes_at(rest, layout.files), rest.len())
 }
 
 // Returns whether the bytes begin with a file header that shows no fault.
-fn has_sound_header(rest: &[u8], files: Files, polarity: Polarity) -> bool {
-    if !has_usable_header(rest, files, polarity) {
-        return false;
-    }
-    let sizes = sizes_at(rest, files);
-    sizes.header <= rest.len() && has_header_sum(rest, sizes.header)
+#[tactic(auto, unfolding(crate::specs::PieceRules::has_sound_header))]
+fn has_sound_header(rest: &[u8], layout: Layout) -> bool
+    requires { length rest.now % 8 ≡ 0 }
+    ensures { result ≡ rules.has_sound_header layout rest.now }
+{
+    has_usable_header(rest, layout) && sums_to_zero(rest, sizes_at(rest, layout.files).header)
 }
 
-// Returns whether a cell may begin at `at`: the end, erased bytes, or a header without a fault apart
-// from its header checksum.
-fn may_begin(rest: &[u8], at: usize, files: Files, polarity: Polarity) -> bool {
-    if at >= rest.len() {
-        return true;
-    }
-    let after = &rest[at..];
-    if after.len() < HEADER_LEN {
-        return after[0] == polarity.erased();
-    }
-    (after[STATE_OFFSET] == polarity.erased() && after[0] == polarity.erased())
-        || has_usable_header(after, files, polarity)
-}
-
-// The number of erased bytes that end bytes that cannot be read.
+// The number of erased bytes that end lost bytes.
 const RUN: usize = 256;
 
-// Returns how many bytes come before the next offset at which a cell may be read again: a multiple
-// of 8, after the first, at which a header without a fault or 256 erased bytes begin.
-fn lost_len(rest: &[u8], files: Files, polarity: Polarity) -> usize
-    requires some { 0 < length rest.now }
-    requires multiple { length rest.now % 8 ≡ 0 }
-    ensures some { 0 < result }
-    ensures within { result ≤ length rest.now }
-    ensures multiple { result % 8 ≡ 0 }
+// Returns whether the first 256 bytes, or all bytes if there are fewer, are erased.
+fn begins_run(rest: &[u8], polarity: Polarity) -> bool
+    requires { 0 < length rest.now }
+    ensures { result ≡ all_are (erased_byte polarity) (take 256 rest.now) }
 {
     let erased = polarity.erased();
+    rest[0] == erased && all_are(&rest[..rest.len().min(RUN)], erased)
+}
+
+// Returns whether a piece that can be read may begin here.
+#[tactic(auto, unfolding(crate::specs::PieceRules::resumes))]
+fn resumes(rest: &[u8], layout: Layout) -> bool
+    requires some { 0 < length rest.now }
+    requires multiple { length rest.now % 8 ≡ 0 }
+    ensures { result ≡ rules.resumes layout rest.now }
+{
+    begins_run(rest, layout.polarity) || has_sound_header(rest, layout)
+}
+
+// Returns how many bytes come before the next place at which a piece may begin. Looks at each byte
+// a bounded number of times: at most 256 bytes from each word of 8 bytes on.
+fn lost_len(rest: &[u8], layout: Layout) -> usize
+    requires some { 0 < length rest.now }
+    requires multiple { length rest.now % 8 ≡ 0 }
+    ensures { result ≡ rules.lost_len layout rest.now }
+{
     let mut at = 8;
-    let mut run = 0;
-    while at + 8 <= rest.len() {
-        let word = u64_at(rest, at);
-        let is_erased = word == 0 && erased == 0 || word == u64::MAX && erased == 0xff;
-        if is_erased {
-            run += 8;
-            if run >= RUN {
-                return at + 8 - run;
-            }
-        } else {
-            run = 0;
-            if has_sound_header(&rest[at..], files, polarity) {
-                return at;
-            }
-        }
+    while at < rest.len() && !resumes(bytes_from(rest, at), layout) {
         at += 8;
     }
-    rest.len() - run
+    at
 }
 
 // Returns how many bytes at the start are erased.
 fn erased_len(rest: &[u8], polarity: Polarity) -> usize
-    ensures { result ≤ length rest.now }
+    ensures count { result ≡ leading_count (erased_byte polarity) rest.now }
+    ensures within { result ≤ length rest.now }
 {
     let erased = polarity.erased();
     let mut at = 0;
@@ -205,222 +261,364 @@ fn erased_len(rest: &[u8], polarity: Polarity) -> usize
     at
 }
 
-// Returns whether the file checksum is right.
-fn has_data_sum(rest: &[u8], header: usize, size: usize) -> bool
-    requires least { 24 ≤ header }
-    requires size { header ≤ size }
-    requires within { size ≤ length rest.now }
+// Returns the piece at the start of `rest`, where no header begins.
+#[tactic(auto, unfolding(crate::specs::PieceRules::space_piece))]
+fn space_piece(rest: &[u8], layout: Layout) -> Piece
+    requires some { 0 < length rest.now }
+    requires multiple { length rest.now % 8 ≡ 0 }
+    ensures { result ≡ rules.space_piece layout rest.now }
 {
-    if rest[19] & 0x40 != 0 {
-        sum8(&rest[header..size]).wrapping_add(rest[17]) == 0
+    if all_are(rest, layout.polarity.erased()) {
+        return plain(Sort::Free, rest.len(), Findings::NONE);
+    }
+    let why = Findings::of(FaultKind::FreeSpace);
+    let erased = erased_len(rest, layout.polarity);
+    if erased >= 8 {
+        plain(Sort::Free, erased / 8 * 8, why)
     } else {
-        rest[17] == 0xaa
+        plain(Sort::Lost, lost_len(rest, layout), why)
     }
 }
 
-// Returns what a file is that is read although the strict reader rejects it: the bits 0x40 and 0x80
-// of its State do not count.
-fn odd_sort(rest: &[u8], polarity: Polarity) -> Sort
+// Returns the state that State shows without the bits 0x40 and 0x80.
+#[tactic(auto, unfolding(crate::specs::PieceRules::counted_state))]
+fn counted_state(byte: u8, polarity: Polarity) -> Option<FileState>
+    ensures { result ≡ rules.counted_state polarity byte }
+{
+    let counted = match polarity {
+        Polarity::Ones => 255 - (255 - byte) % 64,
+        Polarity::Zeros => byte % 64,
+    };
+    file_state(counted, polarity)
+}
+
+// Returns whether the file is valid by the bits of State that count.
+fn is_alive(rest: &[u8], polarity: Polarity) -> bool
     requires { 24 ≤ length rest.now }
+    ensures { result ≡ rules.is_alive_by polarity rest.now }
 {
-    let state = rest[STATE_OFFSET];
-    match file_state(state ^ odd_bits(state, polarity), polarity) {
-        Some(FileState::DataValid | FileState::Marked) => {
-            if rest[18] == FFS_PAD {
-                Sort::Pad
-            } else {
-                Sort::File
-            }
-        }
-        _ => Sort::Dead,
+    matches!(
+        counted_state(rest[STATE_OFFSET], polarity),
+        Some(FileState::DataValid | FileState::Marked)
+    )
+}
+
+// Returns whether a file is a file, a pad or a dead file.
+#[tactic(auto, unfolding(crate::specs::PieceRules::sort_by))]
+fn sort_at(rest: &[u8], polarity: Polarity) -> Sort
+    requires { 24 ≤ length rest.now }
+    ensures { result ≡ rules.sort_by polarity rest.now }
+{
+    if !is_alive(rest, polarity) {
+        Sort::Dead
+    } else if rest[18] == FFS_PAD {
+        Sort::Pad
+    } else {
+        Sort::File
     }
 }
 
-// Returns the findings of a file that is read although the strict reader rejects it.
-fn odd_findings(rest: &[u8], files: Files, polarity: Polarity, sizes: Sizes, sort: Sort) -> Findings
-    requires least { 24 ≤ sizes.header }
-    requires size { sizes.header ≤ sizes.size }
-    requires within { sizes.size ≤ length rest.now }
+// Returns whether the file is not a pad, and is marked for update.
+fn is_marked(rest: &[u8], polarity: Polarity) -> bool
+    requires { 24 ≤ length rest.now }
+    ensures { result ≡ rules.is_marked_by polarity rest.now }
 {
-    let is_file = sort == Sort::File;
-    let has_data_sum = has_data_sum(rest, sizes.header, sizes.size as usize);
-    let is_large = rest[19] & 1 != 0 && files != Files::Ffs3;
-    Findings::NONE
-        .with_if(
-            file_state(rest[STATE_OFFSET], polarity).is_none(),
-            FaultKind::FileState,
-        )
-        .with_if(
-            !has_header_sum(rest, sizes.header),
-            FaultKind::FileHeaderSum,
-        )
-        .with_if(is_large, FaultKind::LargeFile)
-        .with_if(is_file && rest[19] & 4 != 0, FaultKind::Fixed)
-        .with_if(
-            is_file && !is_tailed(rest, files, sizes) && !has_data_sum,
-            FaultKind::FileSum,
-        )
+    let state = counted_state(rest[STATE_OFFSET], polarity);
+    matches!(state, Some(FileState::Marked)) && rest[18] != FFS_PAD
 }
 
 // Returns whether the last two bytes of the file are the tail of an FFS1 file.
+#[tactic(auto, unfolding(crate::specs::PieceRules::is_tailed))]
 fn is_tailed(rest: &[u8], files: Files, sizes: Sizes) -> bool
     requires long { 24 ≤ length rest.now }
-    requires within { sizes.size ≤ length rest.now }
-    ensures { result ≡ true → sizes.header + 2 ≤ sizes.size }
+    requires within { sizes.header ≤ length rest.now }
+    ensures tailed { result ≡ rules.is_tailed files sizes rest.now }
+    ensures two { result ≡ true → 2 ≤ sizes.size }
 {
-    files == Files::Ffs1
-        && rest[19] & 1 != 0
-        && sizes.size as usize >= 2
-        && sizes.header <= sizes.size as usize - 2
+    matches!(files, Files::Ffs1) && rest[19] % 2 == 1 && sizes.header as u64 + 2 <= sizes.size
 }
 
-// Returns the piece of a file that is read although the strict reader rejects it.
-fn odd_file(rest: &[u8], files: Files, polarity: Polarity, sizes: Sizes, fault: Fault) -> Piece
-    requires least { 24 ≤ sizes.header }
-    requires size { sizes.header ≤ sizes.size }
+// Returns the piece of a file, a pad or a dead file.
+#[tactic(auto, unfolding(crate::specs::PieceRules::file_piece))]
+fn file_piece(rest: &[u8], layout: Layout, sizes: Sizes, findings: Findings) -> Piece
+    requires long { 24 ≤ length rest.now }
+    requires header { sizes.header ≤ sizes.size }
     requires within { sizes.size ≤ length rest.now }
-    requires multiple { length rest.now % 8 ≡ 0 }
-    ensures { IsPiece (length rest.now) result }
+    ensures { result ≡ rules.file_piece layout sizes findings rest.now }
 {
-    let sort = odd_sort(rest, polarity);
     let size = sizes.size as usize;
     Piece {
-        sort,
+        sort: sort_at(rest, layout.polarity),
         header: sizes.header,
-        size: if is_tailed(rest, files, sizes) {
+        size: if is_tailed(rest, layout.files, sizes) {
             size - 2
         } else {
             size
         },
         span: up_to_8(sizes.size) as usize,
         code: rest[18],
-        findings: odd_findings(rest, files, polarity, sizes, sort).with(fault.kind),
+        findings,
         name: guid_at(rest, 0),
+        is_marked: is_marked(rest, layout.polarity),
     }
 }
 
-// Returns the bits 0x40 and 0x80 of State that were written.
-fn odd_bits(byte: u8, polarity: Polarity) -> u8 {
-    match polarity {
-        Polarity::Ones => !byte & 0xc0,
-        Polarity::Zeros => byte & 0xc0,
-    }
-}
-
-// Returns the sizes of a file that can be read at the start of `rest` although the strict reader
-// rejects it. In a volume that is cut, a file that goes past the end ends there.
-fn odd_sizes(rest: &[u8], files: Files, polarity: Polarity, is_cut: bool) -> Option<Sizes>
+// Returns whether a cell may begin at the start of these bytes.
+#[tactic(auto, unfolding(crate::specs::PieceRules::may_begin_cell))]
+fn may_begin_cell(rest: &[u8], layout: Layout) -> bool
     requires { length rest.now % 8 ≡ 0 }
-    ensures { IfSome result (λ s. (24 ≤ s.header) × (s.header ≤ s.size) × (s.size ≤ length rest.now)) }
+    ensures { result ≡ rules.may_begin_cell layout rest.now }
 {
-    if rest.len() < HEADER_LEN {
-        return None;
+    let erased = layout.polarity.erased();
+    rest.is_empty()
+        || (rest[0] == erased && (rest.len() < HEADER_LEN || rest[STATE_OFFSET] == erased))
+        || has_usable_header(rest, layout)
+}
+
+// Returns whether a file with these sizes is read at the start of `rest`: the file fits, and its
+// header checksum is right or a cell may begin at its end.
+fn is_read_whole(rest: &[u8], layout: Layout, sizes: Sizes) -> bool
+    requires least { 24 ≤ sizes.header }
+    requires multiple { length rest.now % 8 ≡ 0 }
+    ensures whole { result ≡ rules.is_read_whole layout sizes rest.now }
+    ensures fit { result ≡ true → (sizes.header ≤ sizes.size) × (sizes.size ≤ length rest.now) }
+{
+    if !fits(sizes, rest.len()) {
+        return false;
     }
-    let sizes = sizes_at(rest, files);
-    let has_sum = sizes.header <= rest.len() && has_header_sum(rest, sizes.header);
-    if fit(sizes, rest) {
-        let end = up_to_8(sizes.size) as usize;
-        return if has_sum || may_begin(rest, end, files, polarity) {
-            Some(sizes)
-        } else {
-            None
-        };
-    }
-    if is_cut && has_sum && sizes.size > rest.len() as u64 {
-        return Some(Sizes {
+    let end = up_to_8(sizes.size) as usize;
+    sums_to_zero(rest, sizes.header) || may_begin_cell(bytes_from(rest, end), layout)
+}
+
+// Returns whether a file with these sizes is read in a volume that is cut off: the file goes past
+// the end, and its header checksum is right.
+fn is_read_cut(rest: &[u8], layout: Layout, sizes: Sizes) -> bool
+    requires { 24 ≤ sizes.header }
+    ensures cut { result ≡ rules.is_read_cut layout sizes rest.now }
+    ensures fit { result ≡ true → sizes.header ≤ length rest.now }
+{
+    layout.is_cut && sizes.size > rest.len() as u64 && sums_to_zero(rest, sizes.header)
+}
+
+// Returns the sizes of the file at the start of `rest`, if the file is read although the strict
+// reader rejects it.
+#[tactic(auto, unfolding(crate::specs::PieceRules::read_sizes))]
+fn read_sizes(rest: &[u8], layout: Layout, sizes: Sizes) -> Option<Sizes>
+    requires least { 24 ≤ sizes.header }
+    requires multiple { length rest.now % 8 ≡ 0 }
+    ensures sizes { result ≡ rules.read_sizes layout sizes rest.now }
+    ensures within { IfSome result (λ s. (24 ≤ s.header) × (s.header ≤ s.size) × (s.size ≤ length rest.now)) }
+{
+    if is_read_whole(rest, layout, sizes) {
+        Some(sizes)
+    } else if is_read_cut(rest, layout, sizes) {
+        Some(Sizes {
             header: sizes.header,
             size: rest.len() as u64,
-        });
-    }
-    None
-}
-
-// Returns the piece at the start of `rest`, where the strict reader finds free space that is not all
-// erased.
-fn broken_space(rest: &[u8], files: Files, polarity: Polarity) -> Piece
-    requires some { 0 < length rest.now }
-    requires multiple { length rest.now % 8 ≡ 0 }
-    ensures { IsPiece (length rest.now) result }
-{
-    let why = Findings::of(FaultKind::FreeSpace);
-    let erased = erased_len(rest, polarity) / 8 * 8;
-    if erased > 0 {
-        plain(Sort::Free, erased, why)
+        })
     } else {
-        plain(Sort::Lost, lost_len(rest, files, polarity), why)
+        None
     }
 }
 
-// Returns the piece at the start of `rest`, where the strict reader finds this fault.
-fn damaged_piece(rest: &[u8], files: Files, polarity: Polarity, is_cut: bool, fault: Fault) -> Piece
-    requires some { 0 < length rest.now }
-    requires multiple { length rest.now % 8 ≡ 0 }
-    ensures { IsPiece (length rest.now) result }
+// Returns whether the file checksum is right for the data of a file with these sizes.
+fn has_data_sum(rest: &[u8], sizes: Sizes) -> bool
+    requires long { 24 ≤ length rest.now }
+    requires header { sizes.header ≤ sizes.size }
+    requires within { sizes.size ≤ length rest.now }
+    ensures { result ≡ rules.has_data_sum sizes rest.now }
 {
-    if fault.kind == FaultKind::FreeSpace {
-        return broken_space(rest, files, polarity);
+    if rest[19] / 64 % 2 == 1 {
+        let data = field(rest, sizes.header, sizes.size as usize - sizes.header);
+        sum8(data).wrapping_add(rest[17]) == 0
+    } else {
+        rest[17] == 0xaa
     }
-    if let Some(sizes) = odd_sizes(rest, files, polarity, is_cut) {
-        return odd_file(rest, files, polarity, sizes, fault);
+}
+
+// Returns whether the fixed bit and the file checksum are not checked: the file is a pad, or is not
+// valid by the bits of State that count.
+fn skips_data(rest: &[u8], polarity: Polarity) -> bool
+    requires { 24 ≤ length rest.now }
+    ensures { result ≡ skips_data (rules.is_alive_by polarity rest.now) rest.now }
+{
+    !is_alive(rest, polarity) || rest[18] == FFS_PAD
+}
+
+// Returns whether the header is short, or the files are of FFS3.
+fn may_be_large(rest: &[u8], files: Files) -> bool
+    requires { 24 ≤ length rest.now }
+    ensures { result ≡ rules.may_be_large_in files rest.now }
+{
+    rest[19] % 2 != 1 || matches!(files, Files::Ffs3)
+}
+
+// Returns whether the file ends within the bytes, and Size is zero if the header has 32 bytes.
+fn has_stated_size(rest: &[u8], stated: Sizes) -> bool
+    requires { 24 ≤ length rest.now }
+    ensures { result ≡ rules.has_stated_size stated rest.now }
+{
+    stated.size <= rest.len() as u64 && (stated.header != LARGE_HEADER_LEN || short_size(rest) == 0)
+}
+
+// Returns whether the file is not fixed, or its fixed bit is not checked.
+fn may_move(rest: &[u8], polarity: Polarity) -> bool
+    requires { 24 ≤ length rest.now }
+    ensures { result ≡ rules.may_move polarity rest.now }
+{
+    skips_data(rest, polarity) || rest[19] / 4 % 2 != 1
+}
+
+// Returns whether the file checksum is right, or is not checked.
+fn has_sound_data(rest: &[u8], layout: Layout, sizes: Sizes) -> bool
+    requires long { 24 ≤ length rest.now }
+    requires header { sizes.header ≤ sizes.size }
+    requires within { sizes.size ≤ length rest.now }
+    ensures { result ≡ rules.has_sound_data layout sizes rest.now }
+{
+    skips_data(rest, layout.polarity)
+        || is_tailed(rest, layout.files, sizes)
+        || has_data_sum(rest, sizes)
+}
+
+// Returns the findings of a file that is read although the strict reader rejects it with a fault of
+// this kind. `stated` are the sizes in its header.
+fn file_findings(
+    rest: &[u8],
+    layout: Layout,
+    stated: Sizes,
+    sizes: Sizes,
+    kind: FaultKind,
+) -> Findings
+    requires least { 24 ≤ sizes.header }
+    requires size { sizes.header ≤ sizes.size }
+    requires within { sizes.size ≤ length rest.now }
+    ensures { result ≡ rules.file_findings kind layout stated sizes rest.now }
+{
+    let has_state = file_state(rest[STATE_OFFSET], layout.polarity).is_some();
+    let has_sum = sums_to_zero(rest, sizes.header);
+    let may_be_large = may_be_large(rest, layout.files);
+    let has_size = has_stated_size(rest, stated);
+    let may_move = may_move(rest, layout.polarity);
+    let has_data = has_sound_data(rest, layout, sizes);
+    Findings::of(kind)
+        .with_if(!has_state, FaultKind::FileState)
+        .with_if(!has_sum, FaultKind::FileHeaderSum)
+        .with_if(!may_be_large, FaultKind::LargeFile)
+        .with_if(!has_size, FaultKind::FileSize)
+        .with_if(!may_move, FaultKind::Fixed)
+        .with_if(!has_data, FaultKind::FileSum)
+}
+
+// Returns the piece at the start of `rest`, where the strict reader finds a fault of this kind.
+fn damaged_piece(rest: &[u8], layout: Layout, kind: FaultKind) -> Piece
+    requires long { 24 ≤ length rest.now }
+    requires multiple { length rest.now % 8 ≡ 0 }
+    ensures { result ≡ rules.damaged_piece kind layout rest.now }
+{
+    let stated = sizes_at(rest, layout.files);
+    match read_sizes(rest, layout, stated) {
+        Some(sizes) => {
+            let findings = file_findings(rest, layout, stated, sizes, kind);
+            file_piece(rest, layout, sizes, findings)
+        }
+        None => plain(Sort::Lost, lost_len(rest, layout), Findings::of(kind)),
     }
-    plain(
-        Sort::Lost,
-        lost_len(rest, files, polarity),
-        Findings::of(fault.kind),
+}
+
+// Returns the file system by whose rules the strict reader reads the files.
+fn strict_system(files: Files) -> FileSystem
+    ensures { result ≡ rules.system_by files }
+{
+    match files {
+        Files::Ffs3 => FileSystem::Ffs3,
+        Files::Ffs2 | Files::Ffs1 | Files::Store | Files::Unknown => FileSystem::Ffs2,
+    }
+}
+
+// Returns the kind of the first fault of the strict cell at the start of `rest`, where a header
+// begins.
+fn strict_kind(rest: &[u8], layout: Layout) -> Option<FaultKind>
+    requires header { rules.may_be_header layout.polarity rest.now ≡ true }
+    requires multiple { length rest.now % 8 ≡ 0 }
+    ensures { result ≡ rules.strict_kind layout rest.now }
+{
+    let mut walk = CellWalk::of(rest, 0, strict_system(layout.files), layout.polarity);
+    match walk.next_cell() {
+        Ok(_) => None,
+        Err(fault) => Some(fault.kind),
+    }
+}
+
+// Returns whether a state is the state of a stub.
+fn is_stub_state(state: Option<FileState>) -> bool
+    ensures { result ≡ rules.is_stub_state state }
+{
+    matches!(
+        state,
+        Some(FileState::Construction | FileState::HeaderInvalid)
     )
 }
 
-// Returns a piece with these lengths at the start of `rest`.
-fn measured(rest: &[u8], sort: Sort, header: u64, size: u64) -> Piece
-    requires some { 0 < length rest.now }
-    requires multiple { length rest.now % 8 ≡ 0 }
-    ensures { IsPiece (length rest.now) result }
+// Returns the length of a stub.
+fn stub_len(rest: &[u8]) -> usize
+    requires { 24 ≤ length rest.now }
+    ensures { result ≡ file_header_len_at rest.now }
 {
-    let is_headed = header > 0 || sort == Sort::Stub;
-    if rest.len() < HEADER_LEN
-        || size == 0
-        || !is_headed
-        || header > size
-        || size > rest.len() as u64
-    {
-        return plain(Sort::Lost, rest.len(), Findings::NONE);
-    }
-    Piece {
-        sort,
-        header: header as usize,
-        size: size as usize,
-        span: up_to_8(size) as usize,
-        code: rest[18],
-        findings: Findings::NONE,
-        name: guid_at(rest, 0),
+    if rest[19] % 2 == 1 {
+        LARGE_HEADER_LEN
+    } else {
+        HEADER_LEN
     }
 }
 
-// Returns the piece of a cell that the strict reader accepts.
-fn sound_piece(rest: &[u8], cell: &Cell) -> Piece
-    requires some { 0 < length rest.now }
+// Returns the piece of the strict cell at the start of `rest`, which is not free.
+#[tactic(auto, unfolding(crate::specs::PieceRules::sound_piece))]
+fn sound_piece(rest: &[u8], layout: Layout) -> Piece
+    requires sound { rules.strict_kind layout rest.now ≡ None }
+    requires long { 24 ≤ length rest.now }
     requires multiple { length rest.now % 8 ≡ 0 }
-    ensures { IsPiece (length rest.now) result }
+    ensures { result ≡ rules.sound_piece layout rest.now }
 {
-    match cell {
-        Cell::Valid { head, .. } => measured(rest, Sort::File, head.header_len, head.size),
-        Cell::Pad { head, .. } => measured(rest, Sort::Pad, head.header_len, head.size),
-        Cell::Dead { len, .. } => measured(rest, Sort::Dead, HEADER_LEN as u64, *len),
-        Cell::Stub { len, .. } => measured(rest, Sort::Stub, 0, *len),
-        Cell::Free { .. } => plain(Sort::Free, rest.len(), Findings::NONE),
+    if is_stub_state(file_state(rest[STATE_OFFSET], layout.polarity)) {
+        return plain(Sort::Stub, stub_len(rest), Findings::NONE);
     }
+    let sizes = sizes_at(rest, layout.files);
+    file_piece(rest, layout, sizes, Findings::NONE)
+}
+
+// Returns the piece at the start of `rest`, where a header may begin.
+fn headed_piece(rest: &[u8], layout: Layout) -> Piece
+    requires header { rules.may_be_header layout.polarity rest.now ≡ true }
+    requires long { 24 ≤ length rest.now }
+    requires multiple { length rest.now % 8 ≡ 0 }
+    ensures { result ≡ rules.headed_piece (rules.strict_kind layout rest.now) layout rest.now }
+{
+    match strict_kind(rest, layout) {
+        None => sound_piece(rest, layout),
+        Some(kind) => damaged_piece(rest, layout, kind),
+    }
+}
+
+// Returns whether a header may begin the bytes: there are 24 bytes, and State is not erased.
+fn may_be_header(rest: &[u8], polarity: Polarity) -> bool
+    ensures may { result ≡ rules.may_be_header polarity rest.now }
+    ensures long { result ≡ true → 24 ≤ length rest.now }
+{
+    rest.len() >= HEADER_LEN && rest[STATE_OFFSET] != polarity.erased()
 }
 
 // Returns the piece at the start of `rest`, the part of a body that is left.
-pub(crate) fn piece_at(rest: &[u8], files: Files, polarity: Polarity, is_cut: bool) -> Piece
+#[tactic(auto, unfolding(crate::specs::PieceRules::piece_by))]
+pub(crate) fn piece_at(rest: &[u8], layout: Layout) -> Piece
     requires some { 0 < length rest.now }
     requires multiple { length rest.now % 8 ≡ 0 }
-    ensures { IsPiece (length rest.now) result }
+    ensures is { result ≡ piece_by layout rest.now }
+    ensures lies { IsPiece (length rest.now) result }
 {
-    let mut walk = CellWalk::of(rest, 0, files.system(), polarity);
-    match walk.next_cell() {
-        Ok(Some(cell)) => sound_piece(rest, &cell),
-        Ok(None) => plain(Sort::Lost, rest.len(), Findings::of(FaultKind::FreeSpace)),
-        Err(fault) => damaged_piece(rest, files, polarity, is_cut, fault),
+    if may_be_header(rest, layout.polarity) {
+        headed_piece(rest, layout)
+    } else {
+        space_piece(rest, layout)
     }
 }

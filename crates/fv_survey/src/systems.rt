@@ -1,8 +1,7 @@
 //! The file systems of volumes.
 
 ghost use Rattle.std.specs.Prelude.{◌≡◌};
-ghost use Rattle.fv_base.specs.Words.{bytes_of};
-ghost use Rattle.fv_survey.specs.Systems.{files_by, is_known, is_vendors};
+ghost use Rattle.fv_survey.specs.Systems.{files_by, is_allowed, is_known, is_vendors};
 
 use fv_base::{FileSystem, Guid};
 
@@ -102,4 +101,12 @@ pub(crate) fn files_of(bytes: &[u8]) -> Files
     } else {
         Files::Unknown
     }
+}
+
+// Returns whether the bytes are the GUID of FFS2, of FFS3 or of a variable store, by which a volume
+// breaks no rule.
+pub(crate) fn is_allowed(bytes: &[u8]) -> bool
+    ensures { result ≡ is_allowed bytes.now }
+{
+    bytes == &FFS2[..] || bytes == &FFS3[..] || bytes == &VARIABLES[..]
 }

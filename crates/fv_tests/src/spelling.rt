@@ -1,38 +1,39 @@
 //! Bytes that are spelled as text.
 
 use std::alloc::Global;
-use std::str::from_utf8;
-
-// Returns the byte that two hexadecimal digits spell.
-fn byte_of_digits(digits: &[u8]) -> Option<u8> {
-    u8::from_str_radix(from_utf8(digits).ok()?, 16).ok()
-}
-
-// Appends the bytes that hexadecimal digits spell.
-fn push_digits(bytes: &mut Vec<u8>, digits: &[u8]) -> Option<()> {
-    for pair in digits.chunks(2) {
-        bytes.push(byte_of_digits(pair)?).ok()?;
-    }
-    Some(())
-}
 
 // Appends the bytes that a word spells.
-fn push_word(bytes: &mut Vec<u8>, word: &str) -> Option<()> {
+fn push_word(alloc: Global, bytes: &mut Vec<u8>, word: &str) -> Option<()> {
     let (digits, count) = word.split_once('*').unwrap_or((word, "1"));
+    let part = hex::decode(alloc, digits).ok()?;
     for _ in 0..count.parse::<usize>().ok()? {
-        push_digits(bytes, digits.as_bytes())?;
+        bytes.extend_from_slice(&part).ok()?;
     }
     Some(())
 }
 
-/// Returns the bytes that a text spells. Spaces separate words. In a word, two digits spell a byte,
-/// and a star and a number after the digits repeat these bytes.
+/// Appends the bytes that a text spells. Spaces separate words. In a word, two digits spell a byte, and
+/// a star and a number after the digits repeat these bytes.
+pub(crate) fn push_words(alloc: Global, bytes: &mut Vec<u8>, text: &str) -> Option<()> {
+    for word in text.split_whitespace() {
+        push_word(alloc, bytes, word)?;
+    }
+    Some(())
+}
+
+/// Returns the bytes that a text spells.
 pub(crate) fn spelled_bytes(alloc: Global, text: &str) -> Option<Vec<u8>> {
     let mut bytes = Vec::new(alloc);
-    for word in text.split_whitespace() {
-        push_word(&mut bytes, word)?;
-    }
+    push_words(alloc, &mut bytes, text)?;
     Some(bytes)
+}
+
+/// Returns whether a text spells these bytes.
+pub(crate) fn is_spelled(alloc: Global, text: &str, bytes: &[u8]) -> bool {
+    match spelled_bytes(alloc, text) {
+        Some(wanted) => wanted.as_slice() == bytes,
+        None => false,
+    }
 }
 
 /// Returns the bytes that a text spells. If the first try fails, tries once more:

@@ -2,3 +2,4 @@
 //! out.
 
 mod images;
+mod memory;

@@ -53,8 +53,15 @@ pub use Rattle.fv_tree.proofs.WholeInputLaws.{IsOfInput, input_kind, stood_kind}
 
 -- bytes are a stream of at most one list of sections
 pub use Rattle.fv_tree.proofs.StreamInputLaws.{stream_only}
+-- ---- how the body of a section is read
+
+-- A test decides whether a body is opened as a volume. A body that is read as sections is the body of a group, a body
+-- that is read as a volume is opened, and a group is not a section that holds a volume.
+pub use Rattle.fv_tree.proofs.SectionShapeLaws.{opens_decides, group_shape, volume_shape, group_is_no_volume}
 -- ---- the files as they are stored
 
+-- the value that a loop over files reads after the last file
+pub use Rattle.fv_tree.proofs.NamedLaws.{no_file}
 -- bytes that are a volume begin with its files; bytes begin with the files of at most one volume, and contain the data
 -- of each
 pub use Rattle.fv_tree.proofs.LocatedLaws.{volume_files, one_files, begun_data}

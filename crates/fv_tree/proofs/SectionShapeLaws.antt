@@ -44,7 +44,7 @@ either : (P : FileSystem → Type 0) (t u : Bool) → Decides t (P Ffs2) → Dec
     → Decides (is_some (if t then Some Ffs2 else (if u then Some Ffs3 else None))) ((system : FileSystem) × P system)
 either P t u two three = grind (arith, common_steps)
 
-opens_decides : (b : List ℕ) → Decides (is_one_volume b) (Opens b)
+pub opens_decides : (b : List ℕ) → Decides (is_one_volume b) (Opens b)
 opens_decides b =
     Decides-like _ (λ h. grind arith) (λ o. (((o.least, o.signature), o.file_system), o.length_is)) (Decides-and _ _ (Decides-and _ _
     (Decides-and _ _ (leb-true 56 (length b), le-leb 56 (length b)) (bytes_eq-Decides _ _))

@@ -32,6 +32,7 @@ pub use fv_flash::{FoundVolume, Offsets, scan, volumes};
 pub use lookup::{Item, Lookup, file_by_name, file_by_type, next_file, section_by_type};
 pub use read::{read_volume, volume_cells, whole_volume, whole_volume_with_files};
 pub use section_walk::SectionWalk;
+pub use shape::{Shape, holds_sections, shape_of};
 pub use stored_files::located_files;
 pub use stream_view::{StreamView, whole_stream};
 pub use view::{Body, Content, FileView, SectionView, Sections, VolumeView};

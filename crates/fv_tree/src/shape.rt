@@ -10,15 +10,17 @@ use fv_head::is_one_volume;
 use fv_section::Frame;
 use fv_section::section_type::{DISPOSABLE, FIRMWARE_VOLUME_IMAGE};
 
-// Returns whether a file of this type holds sections.
-pub(crate) fn holds_sections(kind: u8) -> bool
+/// Returns whether a file of this type holds sections. (PI specification, volume 3, section 3.2.3,
+/// `EFI_FV_FILETYPE`.)
+pub fn holds_sections(kind: u8) -> bool
     ensures { result ≡ holds_sections kind }
 {
     kind == FREEFORM || (PEI_CORE <= kind && kind <= MM_CORE_STANDALONE)
 }
 
-/// How the body of a section is read.
-pub(crate) enum Shape {
+/// How the body of a section is read. (PI specification, volume 3, section 3.2.4.)
+#[derive(Clone, Copy)]
+pub enum Shape {
     /// As plain bytes.
     Leaf,
     /// As sections.
@@ -27,9 +29,9 @@ pub(crate) enum Shape {
     Volume,
 }
 
-// Returns how the body of the section in a frame is read. This depends on its type and, if the
-// section may hold a volume, also on its body.
-pub(crate) fn shape_of(frame: &Frame) -> Shape
+/// Returns how the body of the section in a frame is read. This depends on its type and, if the
+/// section may hold a volume, also on its body. (PI specification, volume 3, section 3.2.4.)
+pub fn shape_of(frame: &Frame) -> Shape
     ensures { result ≡ shape_of (framed.frame_form frame.now) }
 {
     if frame.kind == DISPOSABLE {

@@ -11,8 +11,8 @@ pub enum Reading {
     #[default]
     AsIs,
     /// As if no file at any depth were marked as fixed. The call makes a copy without these marks, and
-    /// reads the copy. Offsets are those of the input, and the attributes of a file are without bit
-    /// 0x04. Bytes that are extracted must not be flashed.
+    /// reads the copy. An offset in the copy is the same offset in the input. The attributes of a file
+    /// are without bit 0x04. Bytes that are extracted must not be flashed.
     WithoutMarks,
 }
 

@@ -1,8 +1,8 @@
 // SPDX-License-Identifier: BSD-2-Clause-Patent
 //! The modules of the types of files and sections.
 
-/// Makes a module of constants from those of `fv.h`. They are bytes, as the getters of rows return
-/// them.
+/// Makes a module of constants from the constants of `fv.h`. They are bytes, as the getters of rows
+/// return them.
 macro_rules! types {
     ($(#[$about:meta])* $module:ident: $($name:ident = $of:ident,)*) => {
         $(#[$about])*

@@ -42,7 +42,7 @@ static void check_bytes_of(const struct volume *v, const fv_cell *cell)
         expected.attributes = bytes[ATTRIBUTES];
         memcpy(expected.name.bytes, bytes, sizeof expected.name);
     }
-    CHECK(!memcmp(cell, &expected, sizeof expected), "cells: the cell at %lu is not that of its bytes", cell->offset);
+    CHECK(!memcmp(cell, &expected, sizeof expected), "cells: the cell at %lu differs from its bytes", cell->offset);
 }
 
 static void check_cells(const struct volume *v)

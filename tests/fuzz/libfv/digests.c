@@ -19,7 +19,7 @@ static void check_digests(const struct volume *v, const fv_sha256 *digests)
             sha256(v->image + node->offset, node->length, expected);
             hashed += node->length;
         }
-        CHECK(!memcmp(digests[i].bytes, expected, 32), "tree_digests: number %lu is not that of its bytes", i);
+        CHECK(!memcmp(digests[i].bytes, expected, 32), "tree_digests: number %lu is not the digest of its bytes", i);
     }
 }
 

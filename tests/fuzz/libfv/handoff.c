@@ -13,7 +13,7 @@ static void check_block(const uint8_t *bytes, const fv_hob *block, uint64_t numb
         expected.volume_base = number_at(bytes + 8, 8);
         expected.volume_length = number_at(bytes + 16, 8);
     }
-    CHECK(!memcmp(block, &expected, sizeof expected), "hobs: number %lu is not that of its bytes", number);
+    CHECK(!memcmp(block, &expected, sizeof expected), "hobs: number %lu differs from its bytes", number);
     CHECK(block->hob_length >= 8 && block->hob_length % 8 == 0, "hobs: number %lu has %u bytes", number,
           block->hob_length);
     saw(__func__, block->hob_type, 0, 0);

@@ -109,7 +109,7 @@ void check_untouched(const char *call);
 /* Reports a finding if a byte before the buffer, or after its first `len` bytes, was written. */
 void check_written(size_t len, const char *call);
 
-/* The memory of the library (heap.c): functions that replace those of libfv/src/heap.c. Call open_heap first. */
+/* The memory of the library (heap.c): functions in place of the functions of libfv/src/heap.c. Call open_heap first. */
 void open_heap(void);
 
 /* Refuses one allocation: the allocation with this number, where the next allocation has the number 0. After a call of

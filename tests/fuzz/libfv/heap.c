@@ -115,10 +115,10 @@ struct tried rattle_alloc(size_t n, size_t a)
 void rattle_dealloc(uint8_t *p)
 {
     uint32_t room = room_of(p);
-    CHECK(p >= rooms && room < ROOMS, "what is returned is no block");
+    CHECK(p >= rooms && room < ROOMS, "the returned memory is not a block");
     size_t len = len_in[room];
     CHECK(len, "a block is returned twice");
-    CHECK(p + len <= end_of_room(room) && p + len + 16 > end_of_room(room), "what is returned is no block");
+    CHECK(p + len <= end_of_room(room) && p + len + 16 > end_of_room(room), "the returned memory is not a block");
     CHECK(is_all(p - FENCE, FENCE, FENCED), "bytes before a block of %zu were written", len);
     CHECK(is_all(p + len, (size_t)(end_of_room(room) - p) - len, FENCED), "bytes after a block of %zu", len);
     memset(p, RETURNED, len);

@@ -59,7 +59,7 @@ static void check_digests(const struct volume *v)
         CHECK(count == all && !memcmp(found, wanted, count * sizeof *found), "digests_with: another digest");
 }
 
-/* The bytes of a row with the flag are those of the volume without marks. */
+/* A row has the same bytes with the flag as in the volume without marks. */
 static void check_part(const struct volume *v, size_t row)
 {
     const struct rows rows = {"extract_with", extract, 1, 1, sizeof part, v->bytes, v->len, v->parameters, row % 3};
@@ -72,7 +72,7 @@ static void check_part(const struct volume *v, size_t row)
     if (!result) CHECK(length == wanted && !memcmp(part, other, length), "extract_with: row %zu is another", row);
 }
 
-/* The rows and the first part of a stream with the flag are those of the same stream in the volume without marks. */
+/* A stream has the same rows and the same first part with the flag as in the volume without marks. */
 static void check_stream(const struct volume *v, const fv_node *holder)
 {
     static fv_node found[MOST_NODES], wanted[MOST_NODES];

@@ -37,7 +37,7 @@ static struct rows rows_of(const char *name, rows_call *call, size_t size, size_
     return rows;
 }
 
-/* The rows inside row `row` of the volume are those of the stream, with other depths, parents and offsets. */
+/* The rows inside row `row` of the volume are the rows of the stream, with other depths, parents and offsets. */
 static void check_rows(const struct volume *v, size_t row, size_t count)
 {
     const fv_node *holder = v->nodes + row;
@@ -53,7 +53,7 @@ static void check_rows(const struct volume *v, size_t row, size_t count)
           "sections_tree: more rows in number %zu", row);
 }
 
-/* The digests of the stream are those of the volume, if both have some. */
+/* The digests of the stream are the digests of the volume, if both have some. */
 static void check_digests(const struct volume *v, size_t row, const uint8_t *bytes, size_t count)
 {
     static fv_sha256 of_volume[MOST_BUFFER / sizeof(fv_sha256)];
@@ -74,7 +74,7 @@ static void check_digests(const struct volume *v, size_t row, const uint8_t *byt
           "sections_tree_digests: another digest in number %zu", row);
 }
 
-/* The bytes of a row of the stream are those of the row of the volume, or both are rejected alike. */
+/* A row of the stream has the same bytes as the row of the volume, or both are rejected alike. */
 static void check_part(const struct volume *v, size_t row, const uint8_t *bytes, size_t i)
 {
     size_t length = 0, wanted = 0;

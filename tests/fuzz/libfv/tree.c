@@ -92,7 +92,7 @@ static void check_files_are_cells(const struct volume *v, const fv_node *nodes, 
         while (at < v->cell_count &&
                !(v->cells[at].kind == FV_CELL_FILE && v->cells[at].offset + v->cells[at].header_length == node->offset))
             at++;
-        CHECK(at < v->cell_count, "tree: number %lu is no cell", i);
+        CHECK(at < v->cell_count, "tree: number %lu is not a cell", i);
         const fv_cell *cell = v->cells + at++;
         CHECK(node->efi_type == cell->efi_type && node->attributes == (cell->attributes & ~1u) &&
                   !memcmp(&node->guid, &cell->name, sizeof cell->name) && node->header_length == cell->header_length &&

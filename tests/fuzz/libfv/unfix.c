@@ -28,7 +28,7 @@ static void check_marks(const struct volume *v)
         header[ATTRIBUTES] = (uint8_t)(header[ATTRIBUTES] - FIXED);
         marks++;
     }
-    CHECK(!memcmp(unfixed, expected, v->len), "unfix: another byte than those of %lu marks", marks);
+    CHECK(!memcmp(unfixed, expected, v->len), "unfix: a byte outside of %lu marks has changed", marks);
     saw(__func__, marks > 9 ? 9 : (uint32_t)marks, 0, 0);
 }
 

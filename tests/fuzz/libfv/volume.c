@@ -48,7 +48,7 @@ static void try_header(struct volume *v)
     }
     const fv_header *h = &v->header, expected = expected_header(v->bytes);
     CHECK(h->header_length <= h->first_file && h->first_file <= h->length && h->length <= v->len, "the lengths");
-    CHECK(!memcmp(h, &expected, sizeof expected), "the header is not that of its bytes");
+    CHECK(!memcmp(h, &expected, sizeof expected), "the header differs from its bytes");
 }
 
 COPY_CALL(normalise, fv_volume_normalise)
@@ -129,7 +129,7 @@ static void try_image_of(const struct volume *v)
     CHECK(fv_volume_is_canonical(v->image, v->len, &canonical, &fault) == FV_OK && canonical == 1,
           "is_canonical: the image is not canonical");
     CHECK(fv_volume_digest(v->image, v->len, &digest, &fault) == FV_OK && !memcmp(&digest, &v->digest, sizeof digest),
-          "digest: that of the image is another");
+          "digest: the image has another digest");
     CHECK(fv_header_read(v->image, v->len, &header, &fault) == FV_OK && header.length == v->len &&
               header.file_system == v->header.file_system && header.erased_byte == v->header.erased_byte &&
               header.attributes == v->header.attributes && !memcmp(&header.name, &v->header.name, sizeof header.name),

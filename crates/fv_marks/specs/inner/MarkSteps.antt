@@ -6,8 +6,7 @@ use Rattle.fv_base.specs.declared.flash.Polarity.{Polarity}
 use Rattle.fv_base.specs.declared.fault.FaultKind.TheVariants as kinds
 use Rattle.fv_file.specs.Words.{CellForm, IsFirstCellFault, IsNextFault, Unmarks, Walked, left_at, unmarked}
 use Rattle.fv_section.specs.Words.{FrameForm, frame_len, up_to_4}
-use Rattle.fv_tree.specs.Words.{body_place}
-use Rattle.fv_marks.specs.LostMarks.{body_kind_of}
+use Rattle.fv_tree.specs.Words.{body_place, shape_of}
 use Rattle.fv_marks.specs.declared.section.Section.{Section}
 
 -- ---- the cells of a volume
@@ -43,7 +42,7 @@ pub record BodyUnmarked (s : FileSystem) (p : Polarity) (first : ℕ) (v w : Lis
 
 -- the section is the frame f
 pub record IsSection (f : FrameForm) (s : Section) : Type 0 where
-  pub kind_is : s.kind ≡ body_kind_of f
+  pub shape_is : s.shape ≡ shape_of f
   pub start : s.start ≡ body_place f
   pub end : s.end ≡ s.start + length f.body
   pub next : s.next ≡ up_to_4 (f.offset + frame_len f)

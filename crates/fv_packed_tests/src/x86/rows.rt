@@ -2,8 +2,8 @@
 //! bytes, an arrow, and the words of the result. The words have the meaning that `spelled_bytes` gives
 //! them.
 //!
-//! The results are those of `x86_Convert` in Bra86.c of EDK II, and of liblzma 5.4.1, which agree. The
-//! table is a single text that only one function names.
+//! `x86_Convert` in Bra86.c of EDK II and liblzma 5.4.1 both give these results. The table is a
+//! single text that only one function names.
 
 /// Returns bytes that need each case of the filter, each with the result, and compiled code as the
 /// encoder of Bra86.c writes it, with the code itself.

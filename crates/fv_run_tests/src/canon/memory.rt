@@ -2,7 +2,6 @@
 //! turn, and no wrong result may be returned.
 
 use crate::row_bytes::{bytes_in_two_tries, number_of};
-use crate::volumes::row_of;
 use fv_base::{ByteList, Fault, FaultKind, Port};
 use fv_canon::{
     Layout, Side, VolumeCheck, VolumeOutcome, body_bytes, canonical, check_image, file_bytes,
@@ -119,8 +118,8 @@ fn calls_are_right(alloc: Global, volume: &[u8], image: &[u8], starts: &str) -> 
 // Returns whether each call on the volume of a line, its image and the starts of its files returns
 // the right result, or memory ran out.
 fn calls_on_row_are_right(alloc: Global, line: &str) -> Option<bool> {
-    let (name, other, starts) = row_of(line)?;
-    let starts = starts?;
+    let (name, rest) = line.split_once(": ")?;
+    let (other, starts) = rest.split_once(" -> ")?;
     let volume = bytes_in_two_tries(alloc, name)?;
     let image = bytes_in_two_tries(alloc, other)?;
     Some(calls_are_right(alloc, &volume, &image, starts))
@@ -131,21 +130,24 @@ fn parts_of_file_are_right(alloc: Global, file: &FileView, image: &[u8]) -> bool
     let Lookup::Found(Item::Section(section)) = section_by_type(file, 0x17, 1) else {
         return false;
     };
-    let (Some(data), Some(body)) = (image.get(96..228), image.get(100..228)) else {
-        return false;
-    };
-    is_made_or_memory_ran_out(file_bytes(alloc, file), data)
-        && is_made_or_memory_ran_out(body_bytes(alloc, &section), body)
+    image.len() >= 228
+        && is_made_or_memory_ran_out(file_bytes(alloc, file), &image[96..228])
+        && is_made_or_memory_ran_out(body_bytes(alloc, &section), &image[100..228])
+}
+
+// Returns whether the data of a view's first file and the volume in it are made, or memory ran out.
+fn parts_of_view_are_right(alloc: Global, view: &VolumeView, image: &[u8]) -> bool {
+    match view.file(0) {
+        Some(file) => parts_of_file_are_right(alloc, file, image),
+        None => false,
+    }
 }
 
 // Returns whether the data of a volume's first file and the volume in it are made, or memory ran
 // out.
 fn parts_of_volume_are_right(alloc: Global, volume: &[u8], image: &[u8]) -> bool {
     match read_volume(alloc, volume) {
-        Ok((view, _)) => match view.file(0) {
-            Some(file) => parts_of_file_are_right(alloc, file, image),
-            None => false,
-        },
+        Ok((view, _)) => parts_of_view_are_right(alloc, &view, image),
         Err(fault) => fault == out_of_memory(),
     }
 }
@@ -194,6 +196,6 @@ fn out_of_memory_is_reported(rt: HostRuntime) {
             "{line}"
         );
     }
-    assert!(rt; parts_are_right(rt.alloc()) == Some(true));
-    assert!(rt; comparison_is_right(rt.alloc()) == Some(true));
+    let are_parts_right = parts_are_right(rt.alloc()) == Some(true);
+    assert!(rt; are_parts_right && comparison_is_right(rt.alloc()) == Some(true));
 }

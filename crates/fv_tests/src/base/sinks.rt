@@ -35,15 +35,6 @@ fn is_kept(alloc: Global, polarity: Polarity, count: usize) -> bool {
     }
 }
 
-#[test]
-fn list_sinks_keep_fills(rt: HostRuntime) {
-    for polarity in [Polarity::Ones, Polarity::Zeros] {
-        for count in COUNTS {
-            assert!(rt; is_kept(rt.alloc(), polarity, count), "{count}");
-        }
-    }
-}
-
 // Returns whether a fill of erased bytes and two more bytes are written, and no byte after them.
 // The fault of the first byte without room contains the number of written bytes.
 fn is_room_filled(port: &mut Port<LimitedWriter>, polarity: Polarity, count: usize) -> bool {
@@ -65,17 +56,17 @@ fn is_written(alloc: Global, polarity: Polarity, count: usize) -> bool {
 }
 
 #[test]
-fn write_sinks_write_fills(rt: HostRuntime) {
+fn sinks_keep_and_write_fills(rt: HostRuntime) {
+    assert!(rt; Polarity::Ones.erased() == 0xff && Polarity::Zeros.erased() == 0);
     for polarity in [Polarity::Ones, Polarity::Zeros] {
         for count in COUNTS {
-            assert!(rt; is_written(rt.alloc(), polarity, count), "{count}");
+            let is_kept = is_kept(rt.alloc(), polarity, count);
+            assert!(rt;
+                is_kept && is_written(rt.alloc(), polarity, count),
+                "{count}"
+            );
         }
     }
-}
-
-#[test]
-fn erased_bytes_have_their_values(rt: HostRuntime) {
-    assert!(rt; Polarity::Ones.erased() == 0xff && Polarity::Zeros.erased() == 0);
 }
 
 // Returns whether a copy of the list has the bytes 1 and 2.

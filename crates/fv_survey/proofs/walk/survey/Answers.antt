@@ -1,25 +1,40 @@
-use Rattle.std.proofs.Common.{sym, subst, length}
-use Rattle.fv_survey.specs.Words.{TileEach, IsForest, Tile}
-use Rattle.fv_survey.proofs.ForestLaws.{leaves_follow}
-use Rattle.fv_survey.proofs.GrowthLaws.{whole}
-use Rattle.fv_survey.proofs.InsideLaws.{tile_all}
+use Rattle.std.proofs.Common.{◌*◌, ◌≤◌, [], length, sym, subst, arith}
+use Rattle.fv_survey.specs.Words.{Forest, IsForest, IsHonest, PassesNothing, Tile, TileEach}
+use Rattle.fv_survey.proofs.SurveyLaws.{all_lent, few, honest, inside, nesting, passing, tiling}
 use Rattle.fv_survey.proofs.walk.survey.Goals as goal
-
-pub returns-clause-passes : goal.returns-clause-passes
-returns-clause-passes c =
-    let g = c.in_ok-survey_bytes.ensures.grows in
-    let all = whole c.args.image.now c.new-account.result c.survey_bytes.new.account g.0 c.new-account.ensures.at c.new-account.ensures.rows g.1 in
-    (g.0, subst (λ rows. IsForest (length c.args.image.now) rows g.0) (sym c.finish.ensures) all.0, all.1)
-
-pub returns-clause-nesting : goal.returns-clause-nesting
-returns-clause-nesting c = let all = returns-clause-passes c in (all.0, all.1)
 
 pub returns-clause-tiling : goal.returns-clause-tiling
 returns-clause-tiling c =
-    let all = returns-clause-passes c in
-    subst (λ rows. Tile (length c.args.image.now) rows) (sym all.1.0) (leaves_follow 0 0 (length c.args.image.now) all.0 all.1.1)
+    subst (Tile (length c.args.image.now))
+    (sym (all_lent c.loop-rows.rows.items c.loop-rows.walk c.next_row.new.self c.args.image.now c.in_ok-row.field-0 c.loop-rows.invariant
+    c.in_default.is c.in_ok-row.ensures.none)) (tiling c.args.image.now (omega arith))
 
 pub returns-clause-inside : goal.returns-clause-inside
 returns-clause-inside c =
-    let all = returns-clause-passes c in
-    subst TileEach (sym all.1.0) (tile_all (length c.args.image.now) all.0 all.1.1)
+    subst TileEach
+    (sym (all_lent c.loop-rows.rows.items c.loop-rows.walk c.next_row.new.self c.args.image.now c.in_ok-row.field-0 c.loop-rows.invariant
+    c.in_default.is c.in_ok-row.ensures.none)) (inside c.args.image.now (omega arith))
+
+pub returns-clause-nesting : goal.returns-clause-nesting
+returns-clause-nesting c =
+    subst (λ rows. (f : Forest) × IsForest (length c.args.image.now) rows f)
+    (sym (all_lent c.loop-rows.rows.items c.loop-rows.walk c.next_row.new.self c.args.image.now c.in_ok-row.field-0 c.loop-rows.invariant
+    c.in_default.is c.in_ok-row.ensures.none)) (nesting c.args.image.now (omega arith))
+
+pub returns-clause-passes : goal.returns-clause-passes
+returns-clause-passes c =
+    subst (λ rows. (f : Forest) × IsForest (length c.args.image.now) rows f × PassesNothing c.args.image.now 0 f)
+    (sym (all_lent c.loop-rows.rows.items c.loop-rows.walk c.next_row.new.self c.args.image.now c.in_ok-row.field-0 c.loop-rows.invariant
+    c.in_default.is c.in_ok-row.ensures.none)) (passing c.args.image.now (omega arith))
+
+pub returns-clause-honest : goal.returns-clause-honest
+returns-clause-honest c =
+    subst (λ rows. (f : Forest) × IsForest (length c.args.image.now) rows f × IsHonest c.args.image.now [] [] f)
+    (sym (all_lent c.loop-rows.rows.items c.loop-rows.walk c.next_row.new.self c.args.image.now c.in_ok-row.field-0 c.loop-rows.invariant
+    c.in_default.is c.in_ok-row.ensures.none)) (honest c.args.image.now (omega arith))
+
+pub returns-clause-few : goal.returns-clause-few
+returns-clause-few c =
+    subst (λ rows. length rows ≤ 2 * length c.args.image.now)
+    (sym (all_lent c.loop-rows.rows.items c.loop-rows.walk c.next_row.new.self c.args.image.now c.in_ok-row.field-0 c.loop-rows.invariant
+    c.in_default.is c.in_ok-row.ensures.none)) (few c.args.image.now)

@@ -1,0 +1,12 @@
+use Rattle.std.proofs.Common.{◌≡◌, ◌==◌, ◌∙◌, List, ◌∷◌, length, false, ap, sym, refl}
+use Rattle.fv_survey.specs.Words.{PortionForm, ahead, portion_form, stack}
+use Rattle.fv_survey.proofs.PortionLaws.{stack_push}
+use Rattle.fv_survey.proofs.portion.put.Goals as goal
+
+ahead_some : (p : PortionForm) (ps : List PortionForm) → (length p.bytes == 0) ≡ false → ahead p ps ≡ p ∷ ps
+ahead_some p ps e = rw e refl
+
+pub returns-in_ok-push-clause-put : goal.returns-in_ok-push-clause-put
+returns-in_ok-push-clause-put c =
+    ap stack c.in_ok-push.ensures.items ∙ stack_push c.args.portions.now.items c.args.portion
+    ∙ sym (ahead_some (portion_form c.args.portion) (stack c.args.portions.now.items) (sym c.if-not-is_empty.ensures))

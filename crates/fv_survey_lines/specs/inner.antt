@@ -1,0 +1,2 @@
+-- Definitions that only private clauses cite: a reviewer does not need to read them.
+pub mod Totalled
