@@ -110,6 +110,9 @@ CHECKS = (
     Check("packed", "python3 -m tests.fuzz.packed --count 300 --seed 1 --jobs 2 --plants", QUICK,
           "a second reader and liblzma agree with the library and the program over 15,000 packed sections, and planted "
           "misreadings are found", after=("program", "library")),
+    Check("survey", "python3 -m tests.fuzz.survey --count 5000 --seed 1 --jobs 2 --plants", QUICK,
+          "the rows of surveys of 5000 images with anomalies, and of 105 vendor-like images, keep the laws of a "
+          "survey, and planted faults are found", after=("program", "library")),
     Check("memory", "tests.program.test_memory", 0,
           "the program and some tests with each allocation refused in turn, and the memory that a small file takes",
           after=("prove",), needs=("program",)),

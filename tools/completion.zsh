@@ -61,7 +61,7 @@ _fvtool() {
                 "--section[the type of the section]:type:$sections" '--instance[which of these sections]:number:'
             ;;
         open) _arguments $at $hex '1:file:_files' '--section[the numbers of the section in list]:path:' ;;
-        scan) _arguments $hex '1:file:_files' ;;
+        scan | survey) _arguments $hex '1:file:_files' ;;
         compare)
             _arguments $at '--other-at[the same of the second input]:offset: _fvtool_offsets 2' $hex \
                 '1:first file:_files' '2:second file:_files'

@@ -10,6 +10,7 @@
  *   Where are the volumes of a flash image?               fv_image_scan             any bytes               1
  *   Which volumes of a flash image are canonical?         fv_image_check            any bytes               5
  *   What is a flash image with each volume canonical?     fv_image_normalise        any bytes               5
+ *   What is each byte of an image, and what is wrong?     fv_image_survey           any bytes               3
  *   Is a volume its own canonical image?                  fv_volume_is_canonical    a volume                5
  *   What is its canonical image?                          fv_volume_normalise       a volume                5
  *   What is a volume without the marks of fixed files?    fv_volume_unfix           a volume                none
@@ -75,14 +76,16 @@
  *                        them, and the fields of `fault` are 0. Nothing else was written. So pass no buffer (NULL, and
  *                        room 0) to ask for the number of rows or bytes.
  * After any result except FV_OK the buffer is unchanged. After FV_OK, and only then, rows or bytes are written: to the
- * start of the buffer. The rest of the buffer is unchanged.
+ * start of the buffer. The rest of the buffer is unchanged. fv_image_survey is the only exception: it keeps no rows in
+ * memory, so after FV_BUFFER_TOO_SMALL the buffer is full of the first rows, and after FV_OUT_OF_MEMORY some of the
+ * first rows may have been written to its start.
  *
  * Growth within 2.x: calls, results, rows and fields keep their names, numbers, sizes and places.
  *   - `reserved` is 0, and may get a meaning: do not read it.
  *   - Results may be added. Treat every result except FV_OK, FV_BUFFER_TOO_SMALL, FV_NOT_FOUND and FV_BAD_ARGUMENT as a
  *     fault of the input.
- *   - FV_CELL_*, FV_NODE_*, FV_CONTENT_*, FV_DEPEX_* and FV_PHASE_* get no new member. FV_FILE_*, FV_SECTION_* and
- *     FV_WAY_* may.
+ *   - FV_CELL_*, FV_NODE_*, FV_CONTENT_*, FV_DEPEX_* and FV_PHASE_* get no new member. FV_FILE_*, FV_SECTION_*,
+ *     FV_WAY_* and FV_ROW_* may.
  *   - `efi_type` and `attributes` are bytes of the input, so they may have any value.
  *
  * All lengths and offsets are in bytes. A GUID has its bytes as in the volume: the least significant byte of each of
@@ -91,7 +94,7 @@
  * Rows: two volumes of one meaning can have their parts at other places. So these fields depend on how the input is
  * stored:
  *   fv_header, fv_cell, fv_hob  All fields. All cells are listed, also superseded and deleted files, although these are
- *                               not part of the meaning.
+ *   and fv_survey_row           not part of the meaning. A survey lists all bytes.
  *   fv_node                     `offset` and, for a file, `header_length`. All other fields depend only on the meaning:
  *                               volumes of one meaning, such as a volume and its canonical image, have the same rows
  *                               except for these two fields.
@@ -105,8 +108,8 @@
  *   - which input fv_volume_compare reports if memory runs out after both inputs were read (it is proved that the
  *     function below the call that compares them reports 0; but for the same two inputs, memory could also have run out
  *     while the second was read, so no statement about the arguments can show the difference);
- *   - how often fv_volume_tree and fv_volume_tree_digests read the input, and that these calls and
- *     fv_sections_tree_digests keep no image in memory;
+ *   - how often fv_volume_tree and fv_volume_tree_digests read the input, that these calls and fv_sections_tree_digests
+ *     keep no image in memory, and that fv_image_survey keeps no row in memory;
  *   - that fv_section_open stops decoding at its limit;
  *   - the numbers for memory and stack above, which were measured.
  * This header, the layer (src/calls.c: FV_BAD_ARGUMENT, and NULL in place of an empty argument), fv_guid_text and
@@ -217,6 +220,40 @@ enum { FV_NODE_VOLUME = 1, FV_NODE_FILE = 2, FV_NODE_SECTION = 3 };
  * 0x0F, and bytes otherwise, also for a security core (0x03). A file of these types, or a group, holds sections even if
  * it has no bytes: then no row is below its row. */
 enum { FV_CONTENT_FILES = 0, FV_CONTENT_BYTES = 1, FV_CONTENT_SECTIONS = 2, FV_CONTENT_VOLUME = 3 };
+
+/* The kinds of rows of a survey. The rows of the first four kinds contain other rows: a volume; a file, a pad or a
+ * deleted file, with the filler after it; a section; and lost bytes, which should be a part of a volume and cannot be
+ * read as one, with the volumes that are found among them. All other rows are leaf rows: the header of a volume with
+ * its block map, the extended header of a volume, the header of a file, the header of a section; data of a file that
+ * are not read as sections; the body of a section that is not opened, which is FV_ROW_PACKED for a compression or
+ * GUID-defined section; the erased bytes of a pad, and other bytes of a pad; the data of a file that was deleted or
+ * never finished; a header that was never finished; erased bytes where a file would begin; bytes between two parts;
+ * bytes between the header of a volume and its extended header; bytes outside of volumes; the contents of a volume with
+ * a file system that holds no files, such as a variable store; and bytes that should be a part of a volume and cannot
+ * be read. */
+enum {
+    FV_ROW_VOLUME = 1,
+    FV_ROW_FILE = 2,
+    FV_ROW_SECTION = 3,
+    FV_ROW_LOST = 4,
+    FV_ROW_VOLUME_HEADER = 5,
+    FV_ROW_EXT_HEADER = 6,
+    FV_ROW_FILE_HEADER = 7,
+    FV_ROW_SECTION_HEADER = 8,
+    FV_ROW_DATA = 9,
+    FV_ROW_BODY = 10,
+    FV_ROW_PACKED = 11,
+    FV_ROW_PAD = 12,
+    FV_ROW_PAD_DATA = 13,
+    FV_ROW_DEAD = 14,
+    FV_ROW_STUB = 15,
+    FV_ROW_FREE = 16,
+    FV_ROW_FILLER = 17,
+    FV_ROW_BETWEEN = 18,
+    FV_ROW_GAP = 19,
+    FV_ROW_STORE = 20,
+    FV_ROW_UNREAD = 21
+};
 
 /* The types of files, with the names of the specification after EFI_FV_FILETYPE_. A file may have any other type too:
  * 0xC0 to 0xDF are for vendors, and 0xE0 to 0xEF for debugging. */
@@ -352,6 +389,25 @@ FV_ASSERT_(sizeof(fv_volume_check) == 48 && offsetof(fv_volume_check, offset) ==
                offsetof(fv_volume_check, canonical) == 40 && offsetof(fv_volume_check, reserved) == 44,
            "the layout of fv_volume_check");
 
+/* A row of a survey. */
+typedef struct fv_survey_row {
+    uint64_t offset;   /* where the row begins, from the first byte of the image */
+    uint64_t length;   /* the number of its bytes */
+    uint32_t kind;     /* FV_ROW_* */
+    uint32_t depth;    /* the number of rows around it */
+    uint32_t efi_type; /* Type of a file (FV_FILE_* or another) or of a section (FV_SECTION_* or another), or 0 */
+    uint32_t found;    /* 1 for a volume that was found by its signature, as each volume of depth 0 is; otherwise 0 */
+    uint32_t findings; /* bit N is set if the bytes break the rule of fault N, as in 1u << FV_FAULT_FILE_SUM */
+    fv_guid name;      /* Name of a file, or the GUID of the file system of a volume; otherwise zeros */
+    uint32_t reserved; /* 0 */
+} fv_survey_row;
+FV_ASSERT_(sizeof(fv_survey_row) == 56 && offsetof(fv_survey_row, offset) == 0 &&
+               offsetof(fv_survey_row, length) == 8 && offsetof(fv_survey_row, kind) == 16 &&
+               offsetof(fv_survey_row, depth) == 20 && offsetof(fv_survey_row, efi_type) == 24 &&
+               offsetof(fv_survey_row, found) == 28 && offsetof(fv_survey_row, findings) == 32 &&
+               offsetof(fv_survey_row, name) == 36 && offsetof(fv_survey_row, reserved) == 52,
+           "the layout of fv_survey_row");
+
 /* The findings of fv_volume_compare. */
 typedef struct fv_comparison {
     uint64_t text_length; /* the number of bytes of the text, without the NUL that ends it */
@@ -479,6 +535,19 @@ FV_CHECKED_ fv_result fv_image_check(const void *image, size_t size, fv_volume_c
  * begins in an image within the limit. Without a fault, returns FV_BUFFER_TOO_SMALL if buffer_size < size. */
 FV_CHECKED_ fv_result fv_image_normalise(const void *image, size_t size, void *buffer, size_t buffer_size,
                                          fv_fault *fault);
+
+/* Surveys an image: accounts for every byte of it. Any bytes are accepted, however damaged, in any number. Volumes are
+ * read as far as they can be read, and a row has a finding for each rule of the strict calls that its bytes break.
+ * Writes the rows in preorder: each row is followed by the rows that lie in it, which are one deeper and lie one after
+ * another from its first byte to its end. So every byte of the image is in exactly one leaf row, and the rows of depth
+ * 0 cover the image. Packed sections are not opened. An image that fv_volume_tree accepts has one row of depth 0, a
+ * volume, and no row of it has a finding, except volumes that were found in it, and the rows in superseded files. Sets
+ * *count to the number of rows: at most twice the size. No row is kept in memory, however many there are.
+ * Returns FV_OK; or FV_BUFFER_TOO_SMALL if *count > room, and the buffer is full of the first rows then. Returns
+ * FV_OUT_OF_MEMORY if memory runs out, and leaves *count unchanged; some of the first rows may be at the start of the
+ * buffer then. */
+FV_CHECKED_ fv_result fv_image_survey(const void *image, size_t size, fv_survey_row *rows, size_t room, size_t *count,
+                                      fv_fault *fault);
 
 /* Checks whether the volume is its own canonical image.
  * Returns FV_OK if the input is a volume, and sets *canonical to 1 if it is its own image, or to 0 if it is not or has

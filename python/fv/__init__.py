@@ -6,6 +6,7 @@
     fv.image_scan(image)            the headers of the volumes in a flash image
     fv.image_check(image)           whether each volume of a flash image is its own canonical image, or its fault
     fv.image_normalise(image)       a flash image with each volume in it replaced by its canonical image
+    fv.image_survey(image)          an account of every byte of an image, also of damaged volumes, with what is wrong
     fv.volume_is_canonical(volume)  whether a volume is its own canonical image
     fv.volume_normalise(volume)     the canonical image of a volume
     fv.volume_unfix(volume)         a copy of a volume in which no file is marked as fixed
@@ -39,9 +40,9 @@ the process can crash otherwise.
 Any number of threads may call at once. A process that has threads must not call the library in a child that it has
 forked: let multiprocessing use spawn or forkserver.
 
-The returned values are immutable. Headers, checks, cells, nodes, digests and blocks come in a sequence that makes each
-of them when you access it. A field that a part does not have is None. An `efi_type` is an int, because firmware may
-have any value there; compare it with a member of FileType or SectionType. Buffer is the type of an input, for type
+The returned values are immutable. Headers, checks, cells, nodes, rows, digests and blocks come in a sequence that makes
+each of them when you access it. A field that a part does not have is None. An `efi_type` is an int, because firmware
+may have any value there; compare it with a member of FileType or SectionType. Buffer is the type of an input, for type
 hints.
 
 A rejected input raises FaultError, a ValueError whose `fault` is the reason. Running out of memory raises MemoryError.
@@ -67,6 +68,7 @@ from ._calls import (
     image_check,
     image_normalise,
     image_scan,
+    image_survey,
     section_open,
     section_way,
     sections_extract,
@@ -86,15 +88,15 @@ from ._calls import (
 )
 from ._errors import Error, Fault, FaultError
 from ._library import Buffer, result_text
-from ._native import LENGTH_MAX, CellKind, Content, FaultCode, FileType, NodeKind, Phase, SectionType, Way
-from ._types import Cell, Header, Hob, HobList, Node, Opened, Packed, VolumeCheck
+from ._native import LENGTH_MAX, CellKind, Content, FaultCode, FileType, NodeKind, Phase, RowKind, SectionType, Way
+from ._types import Cell, Header, Hob, HobList, Node, Opened, Packed, SurveyRow, VolumeCheck
 
 __version__ = "2.1.0.dev0"
 __all__ = [
     "LENGTH_MAX", "Buffer", "Cell", "CellKind", "Content", "Error", "Fault", "FaultCode", "FaultError", "FileType",
-    "Header", "Hob", "HobList", "Node", "NodeKind", "Opened", "Packed", "Phase", "SectionType", "VolumeCheck", "Way",
-    "depex_evaluate", "header_read", "hobs_read", "image_check", "image_normalise", "image_scan", "result_text",
-    "section_open", "section_way", "sections_extract", "sections_tree", "sections_tree_digests", "version",
-    "version_number", "volume_cells", "volume_compare", "volume_digest", "volume_extract", "volume_is_canonical",
-    "volume_normalise", "volume_tree", "volume_tree_digests", "volume_unfix",
+    "Header", "Hob", "HobList", "Node", "NodeKind", "Opened", "Packed", "Phase", "RowKind", "SectionType", "SurveyRow",
+    "VolumeCheck", "Way", "depex_evaluate", "header_read", "hobs_read", "image_check", "image_normalise", "image_scan",
+    "image_survey", "result_text", "section_open", "section_way", "sections_extract", "sections_tree",
+    "sections_tree_digests", "version", "version_number", "volume_cells", "volume_compare", "volume_digest",
+    "volume_extract", "volume_is_canonical", "volume_normalise", "volume_tree", "volume_tree_digests", "volume_unfix",
 ]  # fmt: skip

@@ -6,6 +6,7 @@
     python3 -m fv cells IMAGE [--json]      the files, pads, deleted files and free bytes of each volume, with offsets
     python3 -m fv check IMAGE [--json]      whether each volume is its own canonical image
     python3 -m fv digests IMAGE [--json]    the SHA-256 digest of each canonical image, and of its files and sections
+    python3 -m fv survey IMAGE [--json]     an account of every byte of the image, also in and around damaged volumes
 
 Each line begins with the offset of its volume in the image. All other offsets count from the first byte of that volume.
 Headers, nodes and cells have the fields that they have in `fv`. A field that a part does not have is null in JSON, and
@@ -15,6 +16,9 @@ the parent.
 
 A rejected volume has a single line, with its fault. If the image contains no volume, the only line is the fault of its
 first bytes.
+
+`survey` rejects nothing. Its lines are the rows of `fv.image_survey`, whose offsets count from the first byte of the
+image. As text, a line is indented by its depth, and shows `found` and the findings only if there are any.
 
 The process takes at most 4 GiB of memory. `tree` and `digests` need up to 50 bytes for each byte of a volume with only
 empty sections.
@@ -48,6 +52,8 @@ def shown(value: Any) -> Any:
     """Returns a value of a field in the form in which JSON has it."""
     if isinstance(value, enum.Enum):
         return value.name.lower()
+    if isinstance(value, tuple):
+        return [shown(it) for it in value]
     return str(value) if isinstance(value, uuid.UUID) else value
 
 
@@ -64,7 +70,9 @@ def digests(volume: memoryview) -> Iterator[Line]:
             yield {"row": row, **part, "sha256": digest.hex()}
 
 
-# The commands, by their names on the command line, and the lines that each has for a volume.
+# The command that is about the whole image.
+SURVEY = "survey"
+# The other commands, by their names on the command line, and the lines that each has for a volume.
 COMMANDS: dict[str, Callable[[memoryview], Iterable[Line]]] = {
     "scan": lambda volume: [{name: it for name, it in fields(fv.header_read(volume)).items() if name != "offset"}],
     "tree": lambda volume: ({"row": row, **fields(node)} for row, node in enumerate(fv.volume_tree(volume))),
@@ -76,6 +84,9 @@ COMMANDS: dict[str, Callable[[memoryview], Iterable[Line]]] = {
 
 def lines(image: memoryview, name: str) -> Iterator[Line]:
     """Yields the lines of a command. A rejected volume has one line, with its fault."""
+    if name == SURVEY:
+        yield from map(fields, fv.image_survey(image))
+        return
     for at, length in [(it.offset, it.length) for it in fv.image_scan(image)] or [(0, len(image))]:
         try:
             for line in COMMANDS[name](image[at : at + length]):
@@ -88,7 +99,13 @@ def lines(image: memoryview, name: str) -> Iterator[Line]:
 
 def text_of(line: Line) -> str:
     """Returns a line as text: each field with its name. For a node of a tree the offset of its volume comes first, then
-    the indentation, then the kind of the node and its number, and then its fields."""
+    the indentation, then the kind of the node and its number, and then its fields. For a row of a survey the
+    indentation and the kind come first."""
+    if "findings" in line and "depth" in line:
+        notes = {"found": True if line["found"] else None, "findings": ",".join(line["findings"]) or None}
+        place = {name: line[name] for name in ("offset", "length", "efi_type", "name")}
+        indent: str = "  " * line["depth"]
+        return f"{indent}{line['kind']} {text_of({**place, **notes})}"
     if "row" in line and "depth" in line:
         head: str = f"volume {line['volume']} " + "  " * line["depth"]
         rest = {name: it for name, it in line.items() if name not in ("volume", *PLACE)}
@@ -98,7 +115,7 @@ def text_of(line: Line) -> str:
 
 
 JSON = cli.flag("--json", "write each line as a JSON object")
-parser = cli.of(NAME, __doc__, cli.argument("command", choices=COMMANDS), cli.IMAGE, JSON)
+parser = cli.of(NAME, __doc__, cli.argument("command", choices=[*COMMANDS, SURVEY]), cli.IMAGE, JSON)
 
 
 @cli.command(parser)

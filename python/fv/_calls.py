@@ -13,8 +13,8 @@ from . import _native as native
 from ._errors import FAULT_SIZE, error_of
 from ._library import Buffer, Held, lib, new_bytes, result_text, unchanging
 from ._native import Phase
-from ._types import WAYS, Cell, Header, Hob, HobList, Node, Opened, Packed, VolumeCheck
-from ._types import Cells, Checks, Digests, Headers, Hobs, Nodes, Rows
+from ._types import WAYS, Cell, Header, Hob, HobList, Node, Opened, Packed, SurveyRow, VolumeCheck
+from ._types import Cells, Checks, Digests, Headers, Hobs, Nodes, Rows, SurveyRows
 
 # The first buffer for rows has room for a row for each 8 bytes of the input (a section with a body takes at least 8
 # bytes), but for at most 65,536 rows. Memory that a call does not write to costs little.
@@ -112,6 +112,14 @@ def image_check(image: Buffer, *, copy: bool = True) -> Sequence[VolumeCheck]:
     The result for a rejected volume has its fault. Raises a FaultError (LENGTH) if the image has more than LENGTH_MAX
     bytes."""
     return _over(image, copy, _rows, lib.fv_image_check, Checks)
+
+
+def image_survey(image: Buffer, *, copy: bool = True) -> Sequence[SurveyRow]:
+    """Surveys any bytes: returns the rows of the survey, in preorder, which account for every byte. Each row is
+    followed by the rows in it, which are one deeper. No image is rejected: damaged volumes are read as far as they can
+    be read, and a row has a finding for each rule that its bytes break. Packed sections are not opened. There are at
+    most two rows for each byte, and a row takes 56 bytes of memory."""
+    return _over(image, copy, _rows, lib.fv_image_survey, SurveyRows)
 
 
 def image_normalise(image: Buffer, *, copy: bool = True) -> bytes:

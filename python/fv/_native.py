@@ -47,6 +47,7 @@ SHA256_FORMAT = "=32s"
 FAULT_FORMAT = "=QIII4x"
 HEADER_FORMAT = "=QQQIIII16s8x"
 VOLUME_CHECK_FORMAT = "=QQQIII4xI4x"
+SURVEY_ROW_FORMAT = "=QQIIIII16s4x"
 COMPARISON_FORMAT = "=QI4x"
 CELL_FORMAT = "=QQIIII16s8x"
 NODE_FORMAT = "=QQQQIIIIII16sI12x"
@@ -66,6 +67,7 @@ CALLS: dict[str, tuple[Any, list[Any]]] = {
     "fv_image_scan": (_u32, [_pointer, _size, _pointer, _size]),
     "fv_image_check": (_u32, [_pointer, _size, _pointer, _size]),
     "fv_image_normalise": (_u32, [_pointer, _size, _pointer, _size]),
+    "fv_image_survey": (_u32, [_pointer, _size, _pointer, _size]),
     "fv_volume_is_canonical": (_u32, [_pointer, _size]),
     "fv_volume_normalise": (_u32, [_pointer, _size, _pointer, _size]),
     "fv_volume_unfix": (_u32, [_pointer, _size, _pointer, _size]),
@@ -163,6 +165,41 @@ class Content(enum.IntEnum):
     BYTES = 1
     SECTIONS = 2
     VOLUME = 3
+
+
+class RowKind(enum.IntEnum):
+    """The kinds of rows of a survey. The rows of the first four kinds contain other rows: a volume; a file, a pad or a
+    deleted file, with the filler after it; a section; and lost bytes, which should be a part of a volume and cannot be
+    read as one, with the volumes that are found among them. All other rows are leaf rows: the header of a volume with
+    its block map, the extended header of a volume, the header of a file, the header of a section; data of a file that
+    are not read as sections; the body of a section that is not opened, which is RowKind.PACKED for a compression or
+    GUID-defined section; the erased bytes of a pad, and other bytes of a pad; the data of a file that was deleted or
+    never finished; a header that was never finished; erased bytes where a file would begin; bytes between two parts;
+    bytes between the header of a volume and its extended header; bytes outside of volumes; the contents of a volume
+    with a file system that holds no files, such as a variable store; and bytes that should be a part of a volume and
+    cannot be read."""
+
+    VOLUME = 1
+    FILE = 2
+    SECTION = 3
+    LOST = 4
+    VOLUME_HEADER = 5
+    EXT_HEADER = 6
+    FILE_HEADER = 7
+    SECTION_HEADER = 8
+    DATA = 9
+    BODY = 10
+    PACKED = 11
+    PAD = 12
+    PAD_DATA = 13
+    DEAD = 14
+    STUB = 15
+    FREE = 16
+    FILLER = 17
+    BETWEEN = 18
+    GAP = 19
+    STORE = 20
+    UNREAD = 21
 
 
 class FileType(enum.IntEnum):

@@ -12,7 +12,7 @@ from typing import Any, ClassVar, TypeVar, overload
 
 from . import _native as native
 from ._errors import Fault, fault_of
-from ._native import CellKind, Content, NodeKind, Way
+from ._native import CellKind, Content, FaultCode, NodeKind, RowKind, Way
 
 Item = TypeVar("Item")
 
@@ -46,6 +46,30 @@ class VolumeCheck:
     length: int
     fault: Fault | None
     canonical: bool
+
+
+@dataclass(frozen=True, slots=True)
+class SurveyRow:
+    """A row of a survey: its offset and length in the image in bytes, its kind, and the number of rows around it.
+
+    `efi_type` is Type of a file (FileType or another) or a section (SectionType or another), otherwise None. `found`
+    is whether the row is a volume that was found by its signature, as each volume of depth 0 is. `findings` are the
+    rules that the bytes break, each by the code of its fault, in the order of their numbers. `name` is Name of a file,
+    or the GUID of the file system of a volume. It is None for any other row, and for a name of zeros."""
+
+    offset: int
+    length: int
+    kind: RowKind
+    depth: int
+    efi_type: int | None
+    found: bool
+    findings: tuple[FaultCode, ...]
+    name: uuid.UUID | None
+
+    @property
+    def is_leaf(self) -> bool:
+        """Whether the row contains no other rows. Every byte of the image is in exactly one leaf row."""
+        return self.kind not in CONTAINERS
 
 
 @dataclass(frozen=True, slots=True)
@@ -133,6 +157,11 @@ CELL_KINDS = {it.value: it for it in CellKind}
 NODE_KINDS = {it.value: it for it in NodeKind}
 CONTENTS = {it.value: it for it in Content}
 WAYS = {it.value: it for it in Way}
+ROW_KINDS = {it.value: it for it in RowKind}
+# The kinds of rows of a survey that contain other rows.
+CONTAINERS = frozenset((RowKind.VOLUME, RowKind.FILE, RowKind.SECTION, RowKind.LOST))
+# The codes of the faults that can be findings, by the bits of a row.
+_BITS = {1 << it: it for it in FaultCode if it < native.OUT_OF_MEMORY}
 # The value in a row if a part does not have a GUID or a digest.
 _NO_GUID, _NO_DIGEST = bytes(16), bytes(32)
 
@@ -230,6 +259,20 @@ class Checks(Rows[VolumeCheck]):
     def make(offset: int, length: int, at: int, result: int, depth: int, side: int, canonical: int) -> VolumeCheck:
         fault = fault_of(at, result, depth, side) if result else None
         return VolumeCheck(offset, length, fault, canonical == 1)
+
+
+_WITH_TYPE = RowKind.FILE, RowKind.SECTION
+
+
+def _mend_survey_row(it: Any) -> None:
+    it.kind, it.found, it.name = ROW_KINDS.get(it.kind, it.kind), it.found == 1, _guid_or_none(it.name)
+    it.findings = tuple(code for bit, code in _BITS.items() if it.findings & bit) if it.findings else ()
+    if it.kind not in _WITH_TYPE:
+        it.efi_type = None
+
+
+class SurveyRows(Rows[SurveyRow]):
+    layout, make = struct.Struct(native.SURVEY_ROW_FORMAT), _quick(SurveyRow, _mend_survey_row)
 
 
 _WITH_HEADER = int(CellKind.FILE), int(CellKind.PAD)

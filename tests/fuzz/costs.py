@@ -53,7 +53,7 @@ COMMANDS = {
     "program": (
         *("fvtool normalise IMAGE", "fvtool normalise --all IMAGE", "fvtool list IMAGE", "fvtool list --sums IMAGE"),
         *("fvtool cells IMAGE", "fvtool unfix IMAGE", "fvtool check IMAGE", "fvtool check --all IMAGE"),
-        *("fvtool scan IMAGE", "fvtool compare IMAGE IMAGE"),
+        *("fvtool scan IMAGE", "fvtool survey IMAGE", "fvtool compare IMAGE IMAGE"),
     ),
     "package": (
         *("fv-unpack --list IMAGE", "fv-unpack --list --sums IMAGE", "fv-unpack --list --json IMAGE"),
@@ -64,8 +64,8 @@ COMMANDS = {
     "open": ("fvtool open IMAGE",),
     "speed": (
         *("cat IMAGE", "cmp IMAGE COPY", "sha256sum IMAGE", "fvtool scan IMAGE", "fvtool list IMAGE"),
-        *("fvtool cells IMAGE", "fvtool check IMAGE", "fvtool normalise IMAGE", "fvtool list --sums IMAGE"),
-        *("fvtool compare IMAGE IMAGE", "VolInfo IMAGE", "UEFIExtract IMAGE report"),
+        *("fvtool survey IMAGE", "fvtool cells IMAGE", "fvtool check IMAGE", "fvtool normalise IMAGE"),
+        *("fvtool list --sums IMAGE", "fvtool compare IMAGE IMAGE", "VolInfo IMAGE", "UEFIExtract IMAGE report"),
     ),
     "library": (),
 }

@@ -258,8 +258,8 @@ static void try_nothing(void)
            fault->input == 1);
 }
 
-/* Checks that an image above the limit is scanned, but neither checked nor
- * normalised, and that an image at the limit is accepted. */
+/* Checks that an image above the limit is scanned and surveyed, but neither
+ * checked nor normalised, and that an image at the limit is accepted. */
 static void try_large_image(void)
 {
     uint8_t *image = mmap(NULL, FV_LENGTH_MAX + 8, PROT_READ, MAP_PRIVATE | MAP_ANONYMOUS | MAP_NORESERVE, -1, 0);
@@ -274,6 +274,9 @@ static void try_large_image(void)
     EXPECT(fv_image_normalise(image, FV_LENGTH_MAX, NULL, 0, fault) == FV_BUFFER_TOO_SMALL);
     rows = 7;
     EXPECT(fv_image_scan(image, FV_LENGTH_MAX + 8, NULL, 0, &rows, fault) == FV_OK && rows == 0);
+    const fv_survey_row gap = {.length = FV_LENGTH_MAX + 8, .kind = FV_ROW_GAP};
+    EXPECT(fv_image_survey(image, FV_LENGTH_MAX + 8, buffer.survey, 1, &rows, fault) == FV_OK && rows == 1);
+    EXPECT(!memcmp(buffer.survey, &gap, sizeof gap));
     munmap(image, FV_LENGTH_MAX + 8);
 }
 

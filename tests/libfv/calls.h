@@ -19,7 +19,7 @@ static char trying[200] = "";
         }                                                                                                              \
     } while (0)
 
-enum { MOST = 7, ROOM = 8, FILE_AT = 72, DATA_AT = 96, DATA_LEN = 44, LENGTH = 160, FILLED = 0xee };
+enum { MOST = 7, ROOM = 8, SURVEY_ROOM = 32, FILE_AT = 72, DATA_AT = 96, DATA_LEN = 44, LENGTH = 160, FILLED = 0xee };
 
 /* The bytes of a volume with one file and 16 free bytes. The file has type 02, attribute 40 and these sections:
  *   0: type 14 with an extended header and 6 bytes
@@ -80,9 +80,10 @@ static inline void make_both(void)
 /* The buffers and results that calls write to. Each result has room for a second element, so that a misaligned result
  * overlaps no other result. */
 static union {
-    uint8_t bytes[1024];
+    uint8_t bytes[2048];
     fv_header headers[ROOM];
     fv_volume_check checks[ROOM];
+    fv_survey_row survey[SURVEY_ROOM];
     fv_cell cells[ROOM];
     fv_node nodes[ROOM];
     fv_sha256 digests[ROOM];
@@ -124,6 +125,7 @@ struct call {
 MAKES(header_read, P(0), N(0), P(1), P(2))
 MAKES(image_scan, P(0), N(0), P(1), N(1), P(2), P(3))
 MAKES(image_check, P(0), N(0), P(1), N(1), P(2), P(3))
+MAKES(image_survey, P(0), N(0), P(1), N(1), P(2), P(3))
 MAKES(image_normalise, P(0), N(0), P(1), N(1), P(2))
 MAKES(volume_is_canonical, P(0), N(0), P(1), P(2))
 MAKES(volume_normalise, P(0), N(0), P(1), N(1), P(2))
@@ -162,6 +164,7 @@ static const struct call calls[] = {
     CALL(header_read, FAULT_TRUNCATED, IN(volume), ONE(header), ITS_FAULT),
     CALL(image_scan, OK, IN(volume), ROWS(headers), ONE(count), ITS_FAULT),
     CALL(image_check, OK, IN(volume), ROWS(checks), ONE(count), ITS_FAULT),
+    CALL(image_survey, OK, IN(volume), ELEMENTS(BUFFER, buffer.survey, SURVEY_ROOM), ONE(count), ITS_FAULT),
     CALL(image_normalise, OK, IN(volume), OUT(bytes), ITS_FAULT),
     CALL(volume_is_canonical, FAULT_TRUNCATED, IN(volume), ONE(number), ITS_FAULT),
     CALL(volume_normalise, FAULT_TRUNCATED, IN(volume), OUT(bytes), ITS_FAULT),

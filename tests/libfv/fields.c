@@ -1,8 +1,8 @@
 /* SPDX-License-Identifier: BSD-2-Clause-Patent */
-/* Checks results that were worked out by hand, for the volume of calls.h: the rows of its tree, its parts and digests,
- * and a fault, and for the stream of sections in it. Also checks the contents of packed sections, the text of a GUID,
- * and the text of each result. (The checks of tests/fuzz/libfv compare each field of each structure with the bytes of
- * an input.) */
+/* Checks results that were worked out by hand, for the volume of calls.h: the rows of its tree and of its survey, its
+ * parts and digests, and a fault, and for the stream of sections in it. Also checks the surveys of small images, the
+ * contents of packed sections, the text of a GUID, and the text of each result. (The checks of tests/fuzz/libfv compare
+ * each field of each structure with the bytes of an input.) */
 #include "calls.h"
 
 enum { ATTRIBUTES = 0x0004feff };
@@ -86,6 +86,83 @@ static void try_stream(void)
     EXPECT(fv_sections_extract(stream, DATA_LEN, 0, 9, buffer.bytes, DATA_LEN, length, fault) == FV_FAULT_SECTION_SIZE);
     EXPECT(!memcmp(fault, &wanted, sizeof wanted) && *length == 9 && buffer.bytes[0] == FILLED);
     make_both();
+}
+
+/* The GUID of FFS2. */
+#define FFS2_BYTES {0x78, 0xe5, 0x8c, 0x8c, 0x3d, 0x8a, 0x1c, 0x4f, 0x99, 0x35, 0x89, 0x61, 0x85, 0xc3, 0x2d, 0xd3}
+
+/* The rows of the survey of the volume. The file ends with four bytes of filler, after a byte in its data that no
+ * section includes. */
+static const fv_survey_row rows[22] = {
+    {0, LENGTH, FV_ROW_VOLUME, 0, 0, 1, 0, {FFS2_BYTES}, 0},
+    {0, FILE_AT, FV_ROW_VOLUME_HEADER, 1, 0, 0, 0, {{0}}, 0},
+    {FILE_AT, 72, FV_ROW_FILE, 1, 2, 0, 0, {NAME_BYTES}, 0},
+    {FILE_AT, 24, FV_ROW_FILE_HEADER, 2, 0, 0, 0, {{0}}, 0},
+    {DATA_AT, 14, FV_ROW_SECTION, 2, 0x14, 0, 0, {{0}}, 0},
+    {DATA_AT, 8, FV_ROW_SECTION_HEADER, 3, 0, 0, 0, {{0}}, 0},
+    {DATA_AT + 8, 6, FV_ROW_BODY, 3, 0, 0, 0, {{0}}, 0},
+    {DATA_AT + 14, 2, FV_ROW_FILLER, 2, 0, 0, 0, {{0}}, 0},
+    {DATA_AT + 16, 20, FV_ROW_SECTION, 2, 0x03, 0, 0, {{0}}, 0},
+    {DATA_AT + 16, 4, FV_ROW_SECTION_HEADER, 3, 0, 0, 0, {{0}}, 0},
+    {DATA_AT + 20, 9, FV_ROW_SECTION, 3, 0x19, 0, 0, {{0}}, 0},
+    {DATA_AT + 20, 4, FV_ROW_SECTION_HEADER, 4, 0, 0, 0, {{0}}, 0},
+    {DATA_AT + 24, 5, FV_ROW_BODY, 4, 0, 0, 0, {{0}}, 0},
+    {DATA_AT + 29, 3, FV_ROW_FILLER, 3, 0, 0, 0, {{0}}, 0},
+    {DATA_AT + 32, 4, FV_ROW_SECTION, 3, 0x03, 0, 0, {{0}}, 0},
+    {DATA_AT + 32, 4, FV_ROW_SECTION_HEADER, 4, 0, 0, 0, {{0}}, 0},
+    {DATA_AT + 36, 7, FV_ROW_SECTION, 2, 0x19, 0, 0, {{0}}, 0},
+    {DATA_AT + 36, 4, FV_ROW_SECTION_HEADER, 3, 0, 0, 0, {{0}}, 0},
+    {DATA_AT + 40, 3, FV_ROW_BODY, 3, 0, 0, 0, {{0}}, 0},
+    {DATA_AT + 43, 1, FV_ROW_FILLER, 2, 0, 0, 0, {{0}}, 0},
+    {DATA_AT + 44, 4, FV_ROW_FILLER, 2, 0, 0, 0, {{0}}, 0},
+    {DATA_AT + 48, 16, FV_ROW_FREE, 1, 0, 0, 0, {{0}}, 0}};
+enum { ALL_ROWS = sizeof rows / sizeof *rows };
+
+/* Checks that the survey of an image has these rows. */
+static void expect_survey(const uint8_t *image, size_t size, const fv_survey_row *wanted, size_t n)
+{
+    memset(&buffer, FILLED, sizeof buffer);
+    EXPECT(fv_image_survey(image, size, buffer.survey, SURVEY_ROOM, count, fault) == FV_OK && *count == n);
+    EXPECT(!memcmp(buffer.survey, wanted, n * sizeof *wanted) && buffer.bytes[n * sizeof *wanted] == FILLED);
+    EXPECT(!fault->result);
+}
+
+/* Checks surveys: of bytes outside of volumes, of the volume, of the volume with a wrong header checksum, and of a
+ * volume with a byte in its free space. A buffer that is too small is full of the first rows. */
+static void try_survey(void)
+{
+    uint8_t image[88];
+    const fv_survey_row gap = {0, 3, FV_ROW_GAP, 0, 0, 0, 0, {{0}}, 0};
+    const uint32_t space = 1u << FV_FAULT_FREE_SPACE;
+    const fv_survey_row damaged[] = {
+        {0, 88, FV_ROW_VOLUME, 0, 0, 1, 0, {FFS2_BYTES}, 0},
+        {0, 72, FV_ROW_VOLUME_HEADER, 1, 0, 0, 0, {{0}}, 0},
+        {72, 8, FV_ROW_FREE, 1, 0, 0, space, {{0}}, 0},
+        {80, 8, FV_ROW_LOST, 1, 0, 0, space, {{0}}, 0},
+        {80, 8, FV_ROW_UNREAD, 2, 0, 0, 0, {{0}}, 0}};
+    begin("bytes outside of volumes");
+    expect_survey(name, 3, &gap, 1);
+    expect_survey(NULL, 0, rows, 0);
+    begin("a survey");
+    expect_survey(volume, LENGTH, rows, ALL_ROWS);
+    begin("a survey in a short buffer");
+    EXPECT(fv_image_survey(volume, LENGTH, buffer.survey, ALL_ROWS - 1, count, fault) == FV_BUFFER_TOO_SMALL);
+    EXPECT(*count == ALL_ROWS && !fault->result && !memcmp(buffer.survey, rows, sizeof rows - sizeof *rows));
+    EXPECT(buffer.bytes[sizeof rows - sizeof *rows] == FILLED);
+    begin("the survey of a damaged header");
+    fv_survey_row wanted[ALL_ROWS];
+    memcpy(wanted, rows, sizeof rows);
+    wanted[0].findings = 1u << FV_FAULT_HEADER_SUM;
+    volume[50]++;
+    expect_survey(volume, LENGTH, wanted, ALL_ROWS);
+    volume[50]--;
+    begin("the survey of damaged free space");
+    memset(image, 0xff, sizeof image);
+    memset(image, 0, 72);
+    put(image + 16, "78e58c8c3d8a1c4f9935896185c32dd358000000000000005f465648fffe0000480022f600000002");
+    put(image + 56, "0100000058");
+    image[87] = 0;
+    expect_survey(image, sizeof image, damaged, 5);
 }
 
 /* Checks a volume whose file is marked as fixed: with the flag, the rows, the digests and the parts are the same as in
@@ -230,6 +307,7 @@ int main(void)
     make_both();
     try_tree();
     try_stream();
+    try_survey();
     try_marks();
     try_packed();
     try_fault();

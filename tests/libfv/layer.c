@@ -44,6 +44,7 @@ static struct {
 PROVED_ONE(header_read, fv_header)
 PROVED_ROWS(image_scan, fv_header)
 PROVED_ROWS(image_check, fv_volume_check)
+PROVED_ROWS(image_survey, fv_survey_row)
 PROVED_COPY(image_normalise)
 PROVED_ONE(volume_is_canonical, uint32_t)
 PROVED_COPY(volume_normalise)

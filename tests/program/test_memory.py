@@ -54,6 +54,11 @@ FILES_OF_TESTS = sorted(ROOT.glob("crates/*/src/*/memory.rt"))
 TESTS = {it.parents[2].name: it.parents[2] / f"out/{it.parents[2].name}_tests" for it in FILES_OF_TESTS}
 
 
+def front_of(text: str) -> list[str]:
+    """Returns the texts of the first lines of a text: of no line, of one line, and so on, without the last line."""
+    return list(itertools.accumulate(text.splitlines(keepends=True)[:-1], initial=""))
+
+
 @dataclass(frozen=True)
 class Outcome:
     """A run that has ended: its status and its output; the most bytes that it held; how many allocations it asked for;
@@ -137,6 +142,22 @@ class Commands(MemoryCase):
                     break
             self.assertEqual(wanted, (status, f"{line}\n"), words)
             self.assertTrue(done.errors, f"{words}: no message")
+
+    def test_survey(self) -> None:
+        """A survey whose memory runs out has written its first lines, or the line of a fault if its input was not read.
+        It has no last line, and standard error says that lines are missing."""
+        for name in ("both", "parts"):
+            whole = self.outcome(0, PROGRAM, "survey", name)
+            self.assertTrue(whole.output.rpartition("\nsums ")[2].endswith(" findings 0 fixed 0\n"), whole.output)
+            for at in itertools.count(1):
+                done = self.outcome(at, PROGRAM, "survey", name)
+                if not done.is_refused:
+                    break
+                self.assertEqual(done.status, 2, f"{name}: allocation {at} refused")
+                if done.output != "fault 24 at 0\n":
+                    self.assertIn("output has only the first lines", done.errors)
+                    self.assertIn(done.output, front_of(whole.output), f"{name}: allocation {at} refused")
+            self.assertGreater(at, 1, "no allocation was refused")
 
     def test_small_files(self) -> None:
         """For a volume of 10,900 files of 24 bytes, without data, the program holds at most the bytes of the input, 76

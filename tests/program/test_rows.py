@@ -8,7 +8,7 @@ and all of standard output have to be as the row says, and standard error has to
 volume, which `check` reads. Some inputs are read only from standard input: volumes with expressions, the rows of
 `parts`, `lengths`, `bodies`, `read` and `streams`, and the full volumes. The rows of [flash images], [rejected images],
 [checked images], [unfit], [extents], [values] and [data] are for tests/python/test_rows.py, which needs the library. It
-also makes these runs by calls of the library.
+also makes these runs by calls of the library. The rows of `packed` are for tests/python/test_packed_rows.py.
 
 The number of rows has to be ROWS, so that no row gets lost unnoticed."""
 
@@ -30,10 +30,10 @@ from tests.checks import ROOT, read
 from tests.frame import PROGRAM, needs_program
 
 # The number of rows in all files, and the files, by their names and headings.
-ROWS = 1298
+ROWS = 1492
 FILES = {path.stem: rows.tables(path.stem) for path in sorted(rows.FOLDER.glob("*.rows"))}
 # The files whose rows describe runs of a command.
-RUNS = ["normalise", "extract", "extract_open", "scan", "hobs", "list", "list_open", "sums", "check", "cells", "unfix", "open"]
+RUNS = ["normalise", "extract", "extract_open", "scan", "survey", "hobs", "list", "list_open", "sums", "check", "cells", "unfix", "open"]
 RUNS += ["compare", "placed", "text"]
 # The files of the crate's tests that have rows.
 TESTS = ["volumes", "command/other_runs", "command/opened_runs"]

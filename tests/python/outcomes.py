@@ -21,7 +21,7 @@ OF_VOLUME: tuple[Call, ...] = (
 )
 OF_SECTIONS: tuple[Call, ...] = (fv.sections_tree, fv.sections_tree_digests)
 OF_SECTION: tuple[Call, ...] = (fv.section_way, fv.section_open)
-OF_IMAGE: tuple[Call, ...] = (fv.image_scan, fv.image_check, fv.image_normalise)
+OF_IMAGE: tuple[Call, ...] = (fv.image_scan, fv.image_check, fv.image_normalise, fv.image_survey)
 
 
 def outcome(call: Call, *arguments: Any, **named: Any) -> Any:

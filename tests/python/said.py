@@ -15,6 +15,7 @@ from pathlib import Path
 import fv
 from tests.fuzz.maker import leaf_note
 from tests.python.outcomes import outcome
+from tests.survey_laws.rows import FIXED, LEAVES, OUTER
 
 # An exit status, and the bytes on standard output.
 Said = tuple[int, bytes]
@@ -238,6 +239,30 @@ def parts(nodes: Sequence[fv.Node]) -> Iterator[tuple[int, list[str]]]:
         yield row, words
 
 
+def row_text(row: fv.SurveyRow) -> str:
+    """Returns the line of a row of a survey."""
+    kind, name, efi_type = (OUTER + LEAVES)[row.kind - 1], row.name or uuid.UUID(int=0), f"{row.efi_type or 0:02x}"
+    about = {
+        "volume": f" system {name}" + " found" * row.found,
+        "file": f" {name} type {efi_type}",
+        "section": f" type {efi_type}",
+    }
+    findings = " finding " * bool(row.findings) + ",".join(f"{it:d}" for it in row.findings)
+    return f"{'  ' * row.depth}{kind} at {row.offset} length {row.length}{about.get(kind, '')}{findings}"
+
+
+def survey(data: bytes) -> Said:
+    """Makes the output of `survey`."""
+    rows, lengths = fv.image_survey(data), collections.Counter[str]()
+    for row in rows:
+        lengths[(OUTER + LEAVES)[row.kind - 1]] += row.length
+    found = [[int(it) for it in row.findings] for row in rows if row.findings]
+    others = sum(it != [FIXED] for it in found)
+    sums = "".join(f" {it} {lengths[it]}" for it in LEAVES if lengths[it])
+    last = f"sums{sums} all {len(data)} findings {others} fixed {len(found) - others}"
+    return int(others > 0 or lengths["unread"] > 0), text([*map(row_text, rows), last])
+
+
 # The commands with one input, except `extract`.
 COMMANDS: dict[str, Callable[[bytes], Said]] = {
     "normalise": lambda data: (0, fv.volume_normalise(data)),
@@ -246,6 +271,7 @@ COMMANDS: dict[str, Callable[[bytes], Said]] = {
     "check": check,
     "check --all": check_all,
     "scan": lambda data: (0, text([f"volume at {it.offset} length {it.length}" for it in fv.image_scan(data)])),
+    "survey": survey,
     "cells": cells,
     "hobs": hobs,
     "list": listed,

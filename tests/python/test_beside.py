@@ -47,7 +47,7 @@ class Beside(RoomCase):
             for it in fv.image_scan(data)[:PLACED]:
                 volume = data[it.offset : it.offset + it.length]
                 for words, wanted in said.outputs(volume) if it.offset else ():
-                    if words[0] not in ("scan", "hobs") and "--all" not in words:
+                    if words[0] not in ("scan", "survey", "hobs") and "--all" not in words:
                         with self.subTest(name, words=words):
                             self.same(wanted, *words, "--at", str(it.offset), name)
 

@@ -27,6 +27,8 @@ FILES |= {"empty": b"", "depex": rows.spelled("depex-fault"), "named": rows.spel
 
 def json_of(value: Any) -> Any:
     """Returns the value of a field in the form of JSON."""
+    if isinstance(value, tuple):
+        return [json_of(it) for it in value]
     return value.name.lower() if isinstance(value, enum.Enum) else str(value) if isinstance(value, uuid.UUID) else value
 
 
@@ -122,6 +124,30 @@ class Lines(RoomCase):
             ),
         ):
             self.assertEqual(self.run_command(*COMMAND, command, "depex").stdout.splitlines()[: len(lines)], lines)
+
+    def test_survey(self) -> None:
+        for name, data in FILES.items():
+            found = fv.image_survey(data)
+            with self.subTest(name):
+                said = self.runs(0, *COMMAND, "survey", name, "--json")
+                self.assertEqual([*map(json.loads, said.splitlines())], [*map(fields_of, found)])
+                text = self.runs(0, *COMMAND, "survey", name).splitlines()
+                words = [f"{'  ' * it.depth}{it.kind.name.lower()} offset {it.offset} length {it.length}" for it in found]
+                self.assertEqual([line[: len(it)] for line, it in zip(text, words)], words)
+                self.assertEqual(len(text), len(words))
+
+    def test_survey_text(self) -> None:
+        data = bytearray(FILES["depex"])
+        data[50] ^= 1
+        (self.room / "wrong sum").write_bytes(data)
+        lines = [
+            "volume offset 0 length 128 name 8c8ce578-8a3d-4f1c-9935-896185c32dd3 found true findings header_sum",
+            "  volume_header offset 0 length 72",
+            "  file offset 72 length 32 efi_type 7 name 0a0a0a0a-0a0a-0a0a-0a0a-0a0a0a0a0a0a",
+            "    file_header offset 72 length 24",
+            "    section offset 96 length 6 efi_type 19",
+        ]
+        self.assertEqual(self.runs(0, *COMMAND, "survey", "wrong sum").splitlines()[: len(lines)], lines)
 
     def test_usage(self) -> None:
         for words in ((), ("tree",), ("files", "named"), ("tree", "named", "named"), ("tree", "named", "--sums")):

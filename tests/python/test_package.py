@@ -78,7 +78,7 @@ class Names(unittest.TestCase):
     def test_calls(self) -> None:
         declared = re.findall(r"\bFV_(?:API|CHECKED)_ [^;]*?\b(fv_\w+)\(", HEADER)
         named = [it for it in declared if not it.startswith("fv_guid_")]  # the module uuid has the same
-        self.assertEqual((len(declared), sorted(named)), (28, sorted(_native.CALLS)))
+        self.assertEqual((len(declared), sorted(named)), (29, sorted(_native.CALLS)))
         functions = {it.removeprefix("fv_").removesuffix("_with") for it in named}  # _with: an argument `without_marks`
         public = set(fv.__all__) - functions
         self.assertEqual(len(public), len(fv.__all__) - len(functions))
@@ -308,11 +308,36 @@ class Values(unittest.TestCase):
         listed = fv.hobs_read(hob(1, 56) + hob(5, 24, struct.pack("<QQ", 64, 4096)) + hob(0xFFFF, 8) + b"more")
         blocks = [fv.Hob(None, None, 1, 56), fv.Hob(64, 4096, 5, 24), fv.Hob(None, None, 0xFFFF, 8)]
         self.assertEqual((listed.length, listed.blocks), (88, blocks))
-        firsts = [fv.image_scan(data)[0], fv.volume_tree(data)[0], fv.volume_cells(data)[0]]
+        firsts = [fv.image_scan(data)[0], fv.volume_tree(data)[0], fv.volume_cells(data)[0], fv.image_survey(data)[0]]
         values = [*firsts, listed.blocks[0], fv.image_check(data + wrong)[1], listed]
         values += [fv.section_way(packings()[0].section), fv.section_open(packings()[0].section)]
-        self.assertTrue(all(map(is_frozen, values)) and len({*values[:5]}) == 5)
+        self.assertTrue(all(map(is_frozen, values)) and len({*values[:6]}) == 6)
         self.assertTrue(all(copied == value for value in values for copied in again(value)))
+
+    def test_survey(self) -> None:
+        kind, code, file = fv.RowKind, fv.FaultCode, uuid.UUID(bytes_le=bytes(range(11, 27)))
+        self.assertEqual(fv.image_survey(b"\1\2\3"), [fv.SurveyRow(0, 3, kind.GAP, 0, None, False, (), None)])
+        # A volume of one file, with a wrong checksum in the header of the volume, and other bytes around it.
+        data = bytearray(grouped())
+        data[50] ^= 1
+        found = fv.image_survey(b"\xff" * 5 + data + b"\0")
+        tops = [(it.kind, it.offset, it.length, it.found, it.findings) for it in found if not it.depth]
+        volume = kind.VOLUME, 5, 160, True, (code.HEADER_SUM,)
+        self.assertEqual(tops, [(kind.GAP, 0, 5, False, ()), volume, (kind.GAP, 165, 1, False, ())])
+        self.assertEqual(found[1].name, uuid.UUID("8c8ce578-8a3d-4f1c-9935-896185c32dd3"))
+        self.assertEqual(found[3], fv.SurveyRow(77, 72, kind.FILE, 1, 2, False, (), file))
+        self.assertEqual([it.efi_type for it in found if it.kind is kind.SECTION], [0x14, 0x03, 0x19, 0x03, 0x19])
+        # The leaf rows account for each byte, in their order.
+        end = 0
+        for row in found:
+            if row.is_leaf:
+                self.assertEqual(row.offset, end)
+                end += row.length
+        self.assertEqual(end, 166)
+        # A volume that is cut off.
+        rows_of_cut = [(it.kind, it.depth, it.offset, it.length) for it in fv.image_survey(rows.spelled("empty")[:80])]
+        self.assertEqual(rows_of_cut, [(kind.VOLUME, 0, 0, 80), (kind.VOLUME_HEADER, 1, 0, 72), (kind.FREE, 1, 72, 8)])
+        self.assertEqual(fv.image_survey(rows.spelled("empty")[:80])[0].findings, (code.TRUNCATED,))
 
     def test_many_rows(self) -> None:
         # A call returns all rows, whatever room its first buffer has.
@@ -325,6 +350,9 @@ class Values(unittest.TestCase):
             self.assertEqual((digests[-1], fv.volume_extract(many, count + 1)), (hashlib.sha256(b"z").digest(), b"z"))
             offsets = [*range(0, len(VOLUME) * count, len(VOLUME))]
             self.assertTrue([it.offset for it in fv.image_scan(VOLUME * count)] == offsets)
+            survey = fv.image_survey(VOLUME * count)
+            self.assertTrue([it.offset for it in survey if not it.depth] == offsets)
+            self.assertEqual(sum(it.length for it in survey if it.is_leaf), len(VOLUME) * count)
             checks = [fv.VolumeCheck(at, len(VOLUME), None, True) for at in offsets]
             self.assertEqual(fv.image_check(VOLUME * count), checks)
             found = fv.hobs_read(hob(1, 56) + hob(0xFFFE, 8) * (count - 1) + hob(0xFFFF, 8))
@@ -396,7 +424,8 @@ class Buffers(unittest.TestCase):
             for copied in (False, True):
                 for call in OF_VOLUME:
                     self.assertEqual(outcome(call, empty, copy=copied), fv.Fault(fv.FaultCode.TRUNCATED, 0), call)
-                self.assertEqual((fv.image_scan(empty, copy=copied), fv.image_check(empty, copy=copied)), ([], []))
+                for call in (fv.image_scan, fv.image_check, fv.image_survey):
+                    self.assertEqual(call(empty, copy=copied), [])
                 self.assertEqual(fv.image_normalise(empty, copy=copied), b"")
 
     def test_rejected(self) -> None:

@@ -41,6 +41,7 @@ fn result_of(call: &str, words: &[&str]) -> String {
         ("image_scan", []) => shown(image::scan(input)),
         ("image_check", []) => shown(image::check(input)),
         ("image_normalise", []) => shown(image::normalise(input)),
+        ("image_survey", []) => shown(image::survey(input)),
         ("volume_is_canonical", []) => shown(volume::is_canonical(input)),
         ("volume_normalise", []) => shown(volume::normalise(input)),
         ("volume_unfix", []) => shown(volume::unfix(input)),

@@ -120,7 +120,7 @@ def debug(value: Any, is_option: bool = False) -> str:
     if dataclasses.is_dataclass(value):
         fields = ((it.name, getattr(value, it.name), "None" in str(it.type)) for it in dataclasses.fields(value))
         shown = ", ".join(f"{name}: {debug(it, is_optional)}" for name, it, is_optional in fields)
-        return f"{type(value).__name__} {{ {shown} }}".replace("canonical: ", "is_canonical: ")
+        return f"{type(value).__name__} {{ {shown} }}".replace("canonical: ", "is_canonical: ").replace(" found: ", " is_found: ")
     if isinstance(value, Sequence) and not isinstance(value, (str, bytes)):
         return f"[{', '.join(map(debug, value))}]"
     return f"Guid({value})" if isinstance(value, uuid.UUID) else str([*value] if isinstance(value, bytes) else value)

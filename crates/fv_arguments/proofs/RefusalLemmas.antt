@@ -15,7 +15,7 @@ use Rattle.fv_plan.specs.declared.plan.Part.{Part}
 use Rattle.fv_plan.specs.declared.plan.VolumeFile.{VolumeFile}
 use Rattle.fv_plan.specs.declared.plan.Command.TheVariants.{Single, Hobs, Open, Compare}
 use Rattle.fv_plan.specs.declared.plan.Task.TheVariants.{Normalise, NormaliseAll, List as Listing, ListSums, ListOpened}
-use Rattle.fv_plan.specs.declared.plan.Task.TheVariants.{Extract, ExtractOpened, Check, CheckAll, Cells, Unfix, Scan}
+use Rattle.fv_plan.specs.declared.plan.Task.TheVariants.{Extract, ExtractOpened, Check, CheckAll, Cells, Unfix, Scan, Survey}
 use Rattle.fv_arguments.proofs.ArgumentReadLemmas.{by_name, faults_read}
 use Rattle.fv_arguments.specs.Words.{compare_app, extract_app, faults_in, flag_in, hobs_app, image_app, list_app, text_in, HasInput, HasTexts}
 use Rattle.fv_arguments.specs.Words.{IsAtWord, IsImageWords, IsPartBy, IsPathWord, IsVolumeWords, command_app, command_name, open_app}
@@ -72,7 +72,8 @@ other a b e is = true≢false (sym ((bytes_eq-Decides a b).1 is) ∙ e)
 -- whether a command takes one volume as its input
 abbrev is_on_volume : List ℕ → Bool
 is_on_volume name =
-    not (bytes_eq name (codes "hobs")) && (not (bytes_eq name (codes "compare")) && not (bytes_eq name (codes "scan")))
+    not (bytes_eq name (codes "hobs")) && (not (bytes_eq name (codes "compare")) && (not (bytes_eq name (codes "scan"))
+    && not (bytes_eq name (codes "survey"))))
 
 -- the arguments have an input for the command with this name
 abbrev SomeInput : List ℕ → List (List ℕ) → Type 0
@@ -94,6 +95,7 @@ right_input name rest volume right =
     go (Single Cells at file) volume texts = ((at, file), texts)
     go (Single Unfix at file) volume texts = ((at, file), texts)
     go (Single Scan at file) volume texts = absurd (true≢false (sym volume))
+    go (Single Survey at file) volume texts = absurd (true≢false (sym volume))
     go (Single task at file) volume texts = ((at, file), texts.1)
     go (Open path at file) volume texts = ((at, file), texts.0)
     go c volume texts = absurd (true≢false (sym volume))

@@ -18,7 +18,7 @@ use Rattle.fv_arguments.specs.Options.{open_app}
 use Rattle.fv_arguments.specs.Options.{text_in, volume_app}
 use Rattle.fv_plan.specs.declared.plan.Command.TheVariants.{Single, Hobs, Open, Compare}
 use Rattle.fv_plan.specs.declared.plan.Task.TheVariants.{Normalise, NormaliseAll, List as Listing, ListSums, ListOpened}
-use Rattle.fv_plan.specs.declared.plan.Task.TheVariants.{Extract, ExtractOpened, Check, CheckAll, Cells, Unfix, Scan}
+use Rattle.fv_plan.specs.declared.plan.Task.TheVariants.{Extract, ExtractOpened, Check, CheckAll, Cells, Unfix, Scan, Survey}
 
 -- the plan of a command line without arguments: normalise hexadecimal text from standard input
 abbrev pub plan_without_arguments : Plan
@@ -38,6 +38,7 @@ command_name (Single CheckAll at file) = codes "check"
 command_name (Single Cells at file) = codes "cells"
 command_name (Single Unfix at file) = codes "unfix"
 command_name (Single Scan at file) = codes "scan"
+command_name (Single Survey at file) = codes "survey"
 command_name (Hobs file image) = codes "hobs"
 command_name (Open path at file) = codes "open"
 command_name (Compare first second) = codes "compare"
@@ -56,6 +57,7 @@ command_app (Single CheckAll at file) = image_app
 command_app (Single Cells at file) = volume_app
 command_app (Single Unfix at file) = volume_app
 command_app (Single Scan at file) = one_input_app
+command_app (Single Survey at file) = one_input_app
 command_app (Hobs file image) = hobs_app
 command_app (Open path at file) = open_app
 command_app (Compare first second) = compare_app
@@ -156,6 +158,8 @@ HasTexts rest (Single CheckAll at file) =
 HasTexts rest (Single Cells at file) = HasInput volume_app rest at file
 HasTexts rest (Single Unfix at file) = HasInput volume_app rest at file
 HasTexts rest (Single Scan at file) =
+    (at ≡ None) × (option_map string_bytes file ≡ text_in one_input_app (codes "file") rest)
+HasTexts rest (Single Survey at file) =
     (at ≡ None) × (option_map string_bytes file ≡ text_in one_input_app (codes "file") rest)
 HasTexts rest (Hobs file image) =
     (option_map string_bytes file ≡ text_in hobs_app (codes "file") rest)

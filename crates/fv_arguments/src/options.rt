@@ -367,13 +367,18 @@ fn unfix(alloc: Global, matches: &ArgMatches<'_>) -> Result<Command, WordFault>
     Ok(Command::Single { task, at, file })
 }
 
-// Reads the arguments of `scan`: a file that is searched for volumes.
-fn scan(alloc: Global, matches: &ArgMatches<'_>) -> Result<Command, WordFault>
-    ensures { AsksOrFails (codes "scan") matches.now result }
+// Reads the arguments of `scan` or `survey`: a file, all of which is read. The task is the task of
+// the command.
+fn on_file(alloc: Global, matches: &ArgMatches<'_>, task: Task) -> Result<Command, WordFault>
+    ensures scan { task ≡ Task.Scan → AsksOrFails (codes "scan") matches.now result }
+    ensures survey { task ≡ Task.Survey → AsksOrFails (codes "survey") matches.now result }
 {
     let file = file_of(alloc, matches, "file")?;
-    let (task, at) = (Task::Scan, None);
-    Ok(Command::Single { task, at, file })
+    Ok(Command::Single {
+        task,
+        at: None,
+        file,
+    })
 }
 
 // Returns the command with this name and the arguments that the parser found.
@@ -388,7 +393,8 @@ fn command_of(alloc: Global, name: &str, matches: &ArgMatches<'_>) -> Result<Com
         "check" => on_image(alloc, matches, Task::CheckAll, Task::Check),
         "cells" => cells(alloc, matches),
         "unfix" => unfix(alloc, matches),
-        "scan" => scan(alloc, matches),
+        "scan" => on_file(alloc, matches, Task::Scan),
+        "survey" => on_file(alloc, matches, Task::Survey),
         "compare" => compare(alloc, matches),
         "open" => open_section(alloc, matches),
         _ => Err(WordFault::Words),

@@ -70,6 +70,7 @@ fn is_command(name: &str) -> bool {
             | "open"
             | "check"
             | "scan"
+            | "survey"
             | "compare"
             | "hobs"
     )

@@ -2,7 +2,7 @@
 
 ghost use Rattle.clap.specs.Words.{App, Rule, app_of, new_rule, rule_of, with_rule};
 ghost use Rattle.fv_arguments.specs.Options.{compare_app, extract_app, flag_app, flag_rule, hobs_app, list_app};
-ghost use Rattle.fv_arguments.specs.Options.{open_app, option_rule};
+ghost use Rattle.fv_arguments.specs.Options.{one_input_app, open_app, option_rule};
 ghost use Rattle.fv_arguments.specs.inner.CommandWords.{app_named};
 ghost use Rattle.std.specs.Prelude.{◌≡◌, codes, false, IfOk};
 
@@ -59,6 +59,13 @@ fn flag_rules<'a>(alloc: Global, name: &'static str) -> Result<Command<'a>, Allo
         ≡ with_rule (with_rule (with_rule flag_app (flag_rule name.now)) (option_rule (codes "at"))) (new_rule (codes "file"))) }
 {
     add_volume(alloc, add(text_rules(alloc), flag(alloc, name)))
+}
+
+// Makes the rules of a command that takes a file, all of which is read.
+fn file_rules<'a>(alloc: Global) -> Result<Command<'a>, AllocError>
+    ensures { IfOk result (λ c. app_of c ≡ one_input_app) }
+{
+    add(text_rules(alloc), Arg::new(alloc, "file"))
 }
 
 // Makes the rules of `hobs`. Whether the image and its base are given together is checked after
@@ -123,7 +130,8 @@ pub(crate) fn rules_of<'a>(alloc: Global, name: &str) -> Result<Command<'a>, All
         "extract" => extract_rules(alloc),
         "compare" => compare_rules(alloc),
         "open" => open_rules(alloc),
-        "scan" => add(text_rules(alloc), Arg::new(alloc, "file")),
+        "scan" => file_rules(alloc),
+        "survey" => file_rules(alloc),
         _ => add_volume(alloc, text_rules(alloc)),
     }
 }

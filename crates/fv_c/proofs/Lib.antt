@@ -9,3 +9,4 @@ pub mod SectionRows
 pub mod UnfixKinds
 pub mod HeaderLaws
 pub mod HeaderRows
+pub mod SurveyRows

@@ -4,6 +4,7 @@ pub mod ReportedHeaders
 pub mod ReportedComparisons
 pub mod ReportedCells
 pub mod ReportedChecks
+pub mod ReportedSurvey
 pub mod ReportedTruths
 pub mod ReportedHobs
 pub mod ReportedContents

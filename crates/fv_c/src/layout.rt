@@ -8,6 +8,7 @@ use crate::header::FvHeader;
 use crate::hobs::FvHob;
 use crate::image_checks::FvVolumeCheck;
 use crate::reports::FvFault;
+use crate::survey::FvSurveyRow;
 use crate::tree::FvNode;
 use std::mem::size_of;
 
@@ -22,6 +23,8 @@ const _: () = prove!(size_of::<FvSha256>() == 32);
 const _: () = prove!(size_of::<FvCell>() == 56);
 
 const _: () = prove!(size_of::<FvVolumeCheck>() == 48);
+
+const _: () = prove!(size_of::<FvSurveyRow>() == 56);
 
 const _: () = prove!(size_of::<FvNode>() == 88);
 

@@ -6,6 +6,7 @@ pub mod PackedSections
 pub mod OpenRuns
 pub mod ImageChecks
 pub mod PartLines
+pub mod SurveyRuns
 pub mod Tasks
 pub mod PlanRuns
 pub mod Words

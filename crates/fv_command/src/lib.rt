@@ -23,6 +23,7 @@ mod run_end;
 mod shown_image;
 mod source;
 mod status;
+mod survey_run;
 mod task_run;
 mod unfix_run;
 

@@ -113,11 +113,13 @@ fn gather_plan<First: Read, Second: Read, S: Sink>(
 /// Runs a plan, and writes its result or the line of a fault. A command with one input reads
 /// nothing from the second reader.
 ///
-/// If the whole result was written, the status is Done, Different or Faulty. Different means that
-/// two volumes differ, that a part does not exist, or that a volume is not its own canonical image.
-/// Faulty means that a volume of a checked image is rejected. Otherwise the status is Refused: an
-/// input was rejected, memory ran out, or a write failed. A refusal is returned exactly if an input
-/// was rejected or memory ran out.
+/// If the whole result was written, the status is Done, Different, Faulty or Incomplete. Different
+/// means that two volumes differ, that a part does not exist, that a volume is not its own canonical
+/// image, or that a survey has unread bytes or findings. Faulty means that a volume of a checked
+/// image is rejected. Incomplete means that memory ran out in a survey or in a packed section, and
+/// the result lacks what would follow, or what is in this section. Otherwise the status is Refused:
+/// an input was rejected, memory ran out, or a write failed. A refusal is returned exactly if an
+/// input was rejected, or if memory ran out and the status is Refused.
 pub fn run_plan<First: Read, Second: Read, W: Write>(
     alloc: Global,
     plan: &Plan,

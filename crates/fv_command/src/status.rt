@@ -14,7 +14,8 @@ pub enum Status {
     /// A volume of an image was rejected, and everything that was requested was written.
     Faulty,
     /// Memory ran out while a packed section was opened, or while its contents were read, and what
-    /// was found without this section was written.
+    /// was found without this section was written. Or memory ran out in a survey, and its first
+    /// lines were written.
     Incomplete,
     /// An input was rejected, memory ran out, or a write failed.
     Refused,

@@ -83,6 +83,8 @@ pub enum Task {
     Unfix,
     /// Find the volumes in an input.
     Scan,
+    /// List what each byte of an input is, whatever is wrong with it.
+    Survey,
 }
 
 /// The part of a volume that is extracted.

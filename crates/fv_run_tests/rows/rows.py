@@ -36,7 +36,8 @@ def parts(row: str) -> tuple[str, str, str]:
 
 VOLUMES = tables("volumes")
 VOLUMES_READ = tables("read")
-WORDS = {name: words for rows in VOLUMES.values() for name, words, _ in map(parts, rows)}
+NAMED = [*VOLUMES.values(), tables("packed")["names"]]
+WORDS = {name: words for rows in NAMED for name, words, _ in map(parts, rows)}
 # The GUID of the file system FFS3.
 FFS3 = bytes.fromhex("7ac07354cb3dca4dbd6f1e9689e7349a")
 
@@ -52,7 +53,7 @@ def header(name: str) -> bytes:
 
 def spelled(text: str) -> bytes:
     """Returns the bytes that words spell: hexadecimal digits, which a star and a number repeat, headers as `<80>`, and
-    names of volumes.rows."""
+    names of volumes.rows and packed.rows."""
     found = []
     for word in text.split():
         digits, _, count = word.partition("*")

@@ -95,6 +95,8 @@ fn plans() -> &'static str {
         18446744073709551615]), at: Some(8), file: Some(\"a.fd\") } }\n\
     fv scan a.bin: Plan { hex: false, command: Single { task: Scan, at: None, file: Some(\"a.bin\") } }\n\
     fv scan --hex: Plan { hex: true, command: Single { task: Scan, at: None, file: None } }\n\
+    fv survey a.bin: Plan { hex: false, command: Single { task: Survey, at: None, file: Some(\"a.bin\") } }\n\
+    fv survey --hex: Plan { hex: true, command: Single { task: Survey, at: None, file: None } }\n\
     fv compare a.fv b.fv: Plan { hex: false, command: Compare { first: VolumeFile { path: \"a.fv\", at: None }, \
         second: VolumeFile { path: \"b.fv\", at: None } } }\n\
     fv compare a.txt --hex b.txt: Plan { hex: true, command: Compare { first: VolumeFile { path: \"a.txt\", at: \

@@ -75,12 +75,7 @@ placed_of : (k : StateSort) (at : ℕ) (head : FileHead) (payload : List ℕ) (p
     → IsCellPiece (cell_of k at head payload) piece
 placed_of kept.Unfinished at head payload piece = λ is. is
 placed_of kept.Dead at head payload piece = λ is. is
-placed_of kept.Erased at head payload piece = go (head.kind == pad_kind) where
-  go : (t : Bool) → IsCellPiece (if t then Pad 0 head payload else Valid 0 head payload) piece
-      → IsCellPiece (if t then Pad at head payload else Valid at head payload) piece
-  go true is = is
-  go false is = is
-placed_of kept.Valid at head payload piece = go (head.kind == pad_kind) where
+placed_of _ at head payload piece = go (head.kind == pad_kind) where
   go : (t : Bool) → IsCellPiece (if t then Pad 0 head payload else Valid 0 head payload) piece
       → IsCellPiece (if t then Pad at head payload else Valid at head payload) piece
   go true is = is
@@ -94,11 +89,7 @@ placed (Some st) at r piece is = placed_of (sort_of st) at (head_in st r) (paylo
 data_of : (k : StateSort) (at : ℕ) (st : FileState) (r : List ℕ) → HasData (cell_of k at (head_in st r) (payload_at r)) r
 data_of kept.Unfinished at st r = tt
 data_of kept.Dead at st r = tt
-data_of kept.Erased at st r = go (slice_index r 18 == pad_kind) where
-  go : (t : Bool) → HasData (if t then Pad at (head_in st r) (payload_at r) else Valid at (head_in st r) (payload_at r)) r
-  go true = refl
-  go false = refl
-data_of kept.Valid at st r = go (slice_index r 18 == pad_kind) where
+data_of _ at st r = go (slice_index r 18 == pad_kind) where
   go : (t : Bool) → HasData (if t then Pad at (head_in st r) (payload_at r) else Valid at (head_in st r) (payload_at r)) r
   go true = refl
   go false = refl

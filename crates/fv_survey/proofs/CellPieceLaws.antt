@@ -1,5 +1,5 @@
--- Where the strict reading finds a cell, the piece is this cell (`sound_agrees`). So the header and the size of a file
--- are those that the strict reading reads.
+-- Where the strict reading finds a cell, the piece is this cell (`sound_agrees`). So both readings
+-- give a file the same header and the same size.
 use Rattle.std.proofs.Common.{◌≡◌, ◌<◌, ◌+◌, ◌%◌, ◌==◌, ◌&&◌, ◌||◌, ℕ, if◌then◌else◌, Bool, true, false}
 use Rattle.fv_base.proofs.Laws.{AllHold, List, None, Option, Some, ap, arith, common_steps, length, nat_le, nat_tests, not, refl, slice_index, up_to_8}
 use Rattle.fv_base.proofs.Laws.{and_split, ◌∙◌}

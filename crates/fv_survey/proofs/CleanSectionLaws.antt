@@ -4,17 +4,14 @@
 --    (`bodies_clean`), and so a meaning (`stream_means`).
 -- 2. A test decides which bodies are opened as a volume (`opens_decides`). So the form in which a body is read agrees
 --    with its meaning (`body_clean`, `body_means`).
-use Rattle.std.proofs.Common.{◌≡◌, ◌≢◌, ◌≤◌, ◌+◌, ◌==◌, ◌&&◌, ◌||◌, ◌++◌, ℕ, [], ◌∷◌, Bool, true, false, if◌then◌else◌, Some, None, is_some}
-use Rattle.std.proofs.Common.{List, length, drop, refl, sym, ap, ◌∙◌, subst, arith, zero, suc, length-drop, eq-eqb, eqb-true, le-leb, leb-true}
-use Rattle.std.proofs.lemmas.Bool.Decides.{Decides-and, Decides-like}
+use Rattle.std.proofs.Common.{◌≡◌, ◌≢◌, ◌≤◌, ◌+◌, ◌==◌, ◌&&◌, ◌||◌, ◌++◌, ℕ, [], ◌∷◌, Bool, true, false, if◌then◌else◌}
+use Rattle.std.proofs.Common.{List, length, drop, refl, sym, ap, ◌∙◌, subst, arith, zero, suc, length-drop, eq-eqb, eqb-true}
 use Rattle.std.specs.List.{AllByRecursion}
-use Rattle.fv_base.proofs.Laws.{Decides, Decides-eqb, IsBytes, and_join, and_split, bytes_back, bytes_eq-Decides, common_steps, drop_all}
-use Rattle.fv_base.proofs.Laws.{field}
-use Rattle.fv_base.specs.declared.flash.FileSystem.{FileSystem}
-use Rattle.fv_base.specs.declared.flash.FileSystem.TheVariants.{Ffs2, Ffs3}
-use Rattle.fv_head.specs.Words.{is_one_volume, system_guid}
+use Rattle.fv_base.proofs.Laws.{IsBytes, and_join, and_split, bytes_back, drop_all, up_is_not_down}
+use Rattle.fv_head.specs.Words.{is_one_volume}
 use Rattle.fv_section.proofs.Laws.{begun_bytes}
 use Rattle.fv_section.specs.Words.{FrameForm, SplitsFrom, frame_len, up_to_4}
+use Rattle.fv_tree.proofs.Laws.{opens_decides}
 use Rattle.fv_tree.specs.Words.{Group, Leaf, Meaning, Nested, Opens, Pairwise, Section, SectionMeaning, SectionOver, SectionRelation}
 use Rattle.fv_tree.specs.Words.{StreamOver, StreamRelation, VolumeRelation, group_kind, sections_from, sections_list, volume_kind}
 use Rattle.fv_survey.specs.inner.CleanParts.{CleanSections}
@@ -131,18 +128,7 @@ module _ (is_section : SectionRelation) (body : BodyForm → Clean) where
       (bodies_clean body (length b) 0 split.0 split.1 b (omega arith) read clean) in
       (made.0, split.1, (split.0, split.2, made.1))
 
--- ---- the test of a body
-
--- a test for FFS2 and a test for FFS3 decide whether P holds of some file system
-either : (P : FileSystem → Type 0) (t u : Bool) → Decides t (P Ffs2) → Decides u (P Ffs3)
-    → Decides (is_some (if t then Some Ffs2 else (if u then Some Ffs3 else None))) ((system : FileSystem) × P system)
-either P t u two three = grind (arith, common_steps)
-
-pub opens_decides : (b : List ℕ) → Decides (is_one_volume b) (Opens b)
-opens_decides b =
-    Decides-like _ (λ h. grind arith) (λ o. (((o.least, o.signature), o.file_system), o.length_is)) (Decides-and _ _ (Decides-and _ _
-    (Decides-and _ _ (leb-true 56 (length b), le-leb 56 (length b)) (bytes_eq-Decides _ _))
-    (either (λ s. field 16 16 b ≡ system_guid s) _ _ (bytes_eq-Decides _ _) (bytes_eq-Decides _ _))) (Decides-eqb _ _))
+-- ---- the form of a body
 
 group_form : (kind : ℕ) (b : List ℕ) → kind ≡ group_kind → body_form kind b ≡ forms.Group
 group_form kind b is = rw (eq-eqb kind group_kind is) refl
@@ -155,7 +141,7 @@ volume_form kind b is opens =
 -- ---- bodies
 
 -- `sections_list` undoes `sections_from`
-list_back : (ss : List SectionMeaning) → sections_list (sections_from ss) ≡ ss
+pub list_back : (ss : List SectionMeaning) → sections_list (sections_from ss) ≡ ss
 list_back [] = refl
 list_back (s ∷ ss) = ap (λ l. s ∷ l) (list_back ss)
 
@@ -222,6 +208,4 @@ module _ (is_stream : StreamRelation) (is_volume : VolumeRelation) (stream volum
             Section f.kind f.extended (Nested found.0),
             (refl, refl, (eqb-true f.kind volume_kind parts.0, (opens_decides f.body).0 parts.1, found.1)),
           )
-      go false is false one p clean = leaf (λ same. not_both _ (eq-eqb f.kind group_kind same) is) one where
-        not_both : (t : Bool) → t ≡ true → t ≡ false → ⊥
-        not_both t up down = let both : true ≡ false = sym up ∙ down in cc
+      go false is false one p clean = leaf (λ same. up_is_not_down _ (eq-eqb f.kind group_kind same) is) one

@@ -24,6 +24,7 @@ use Rattle.fv_tree.specs.Words.{StreamRelation, Volume, VolumeOver, current_in, 
 use Rattle.fv_tree.specs.Words.{TopAtEnd, sections_from, sections_list, superseded_by}
 use Rattle.fv_survey.specs.inner.CleanParts.{pieces_up_to}
 use Rattle.fv_survey.proofs.CellAgreementLaws.{AllClean, clean_tiled, tiled_read}
+use Rattle.fv_survey.proofs.CleanSectionLaws.{list_back}
 use Rattle.fv_survey.proofs.HeaderAgreementLaws.{clean_begins, same_extent}
 use Rattle.fv_survey.proofs.NameAgreementLaws.{names_accepted, names_free, stored_as}
 use Rattle.fv_survey.proofs.PieceBoundLaws.{piece_lies}
@@ -35,11 +36,6 @@ use Rattle.fv_survey.specs.declared.parts.Parts.{Parts}
 use Rattle.fv_survey.specs.declared.pieces.Layout.{Layout}
 use Rattle.fv_survey.specs.declared.pieces.Piece.{Piece}
 use Rattle.fv_survey.specs.declared.systems.Files.TheVariants as files
-
--- `sections_list` undoes `sections_from`
-list_back : (ss : List SectionMeaning) → sections_list (sections_from ss) ≡ ss
-list_back [] = refl
-list_back (s ∷ ss) = ap (λ l. s ∷ l) (list_back ss)
 
 -- ---- the files of a body
 

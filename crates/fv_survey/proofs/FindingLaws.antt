@@ -69,23 +69,7 @@ finding_is k b = broken_bit b (fault_number k) header_kinds 0 ∙ go k where
   go kinds.BlockMap = or_none _
   go kinds.Length = or_none _
   go kinds.ExtHeader = or_none _
-  go kinds.FileState = refl
-  go kinds.FileHeaderSum = refl
-  go kinds.FileSize = refl
-  go kinds.LargeFile = refl
-  go kinds.FileSum = refl
-  go kinds.Fixed = refl
-  go kinds.FreeSpace = refl
-  go kinds.DuplicateName = refl
-  go kinds.TopFile = refl
-  go kinds.SectionSize = refl
-  go kinds.SectionTail = refl
-  go kinds.Depth = refl
-  go kinds.NoRoom = refl
-  go kinds.TopAlignment = refl
-  go kinds.OutOfMemory = refl
-  go kinds.ReadFault = refl
-  go kinds.WriteFault = refl
+  go _ = refl
 
 -- a header without findings breaks no rule
 pub none_broken : (b : List ℕ) → bits_of (header_findings b) ≡ 0 → (k : FaultKind) → breaks k b ≡ false

@@ -29,6 +29,7 @@ use Rattle.fv_survey.specs.declared.section_step.BodyForm.TheVariants as forms
 use Rattle.fv_survey.specs.inner.Pieces.{IsPiece, is_node}
 use Rattle.fv_tree.specs.Words.{holds_sections}
 use Rattle.fv_survey.proofs.PortionLaws.{length-cut}
+use Rattle.fv_survey.proofs.RunLaws.{deep_inside, found_inside}
 use Rattle.fv_survey.proofs.RuleLaws.{volume_end_lies, parts_lie, piece_lies, start_within, start_long, section_lies, volume_long, SectionLies}
 
 -- the portions fit, and give at most n rows
@@ -129,15 +130,6 @@ run_before : (kind : RowKind) (p : PortionForm) (ps : List PortionForm) → nat_
     → run_inside p (run_after kind p ps) ≡ ahead (cut (readings.Run kind) p.nest (first_start p.bytes) (length p.bytes) p) ps
 run_before kind p ps e = rw e refl
 
-run_deep : (kind : RowKind) (p : PortionForm) (ps : List PortionForm) → nat_lt 0 (first_start p.bytes) ≡ false → (p.nest.found == 0) ≡ true
-    → run_inside p (run_after kind p ps) ≡ ahead (cut (readings.Run kind) p.nest (length p.bytes) (length p.bytes) p) ps
-run_deep kind p ps e d = rw (e, d) refl
-
-run_found : (kind : RowKind) (p : PortionForm) (ps : List PortionForm) → nat_lt 0 (first_start p.bytes) ≡ false → (p.nest.found == 0) ≡ false
-    → run_inside p (run_after kind p ps)
-    ≡ volume_inside (found_volume p) (ahead (cut (readings.Run kind) p.nest (volume_end p.bytes) (length p.bytes) p) ps)
-run_found kind p ps e d = rw (e, d) refl
-
 run_keeps : (kind : RowKind) (p : PortionForm) (ps : List PortionForm) (n : ℕ) → 0 < length p.bytes → p.at + length p.bytes < 2 ^ 63
     → is_searched kind ≡ true → IsShallowRun 0 p.nest → Keeps n ps → Keeps (2 * length p.bytes - 2 + n) (run_inside p (run_after kind p ps))
 run_keeps kind p ps n some room sought shallow k = go (nat_lt 0 (first_start p.bytes)) refl (p.nest.found == 0) refl where
@@ -153,7 +145,7 @@ run_keeps kind p ps n some room sought shallow k = go (nat_lt 0 (first_start p.b
       (put_keeps (readings.Run kind) p.nest (first_start p.bytes) m p ps n (2 * (m - first_start p.bytes)) (start_within p.bytes) (omega arith) room
       (λ _. (sought, shallow)) (λ _. omega arith) k))
   go false e true d =
-      subst (Keeps (2 * m - 2 + n)) (sym (run_deep kind p ps e d))
+      subst (Keeps (2 * m - 2 + n)) (sym (deep_inside kind p ps e d))
       (keeps_more (0 + n) (2 * m - 2 + n) _ (omega (arith, some))
       (put_keeps (readings.Run kind) p.nest m m p ps n 0 (omega arith) (omega arith) room
       (λ l. absurd (omega (arith, l))) (λ l. absurd (omega (arith, l))) k))
@@ -163,7 +155,7 @@ run_keeps kind p ps n some room sought shallow k = go (nat_lt 0 (first_start p.b
       let lies = volume_end_lies p.bytes (start_long p.bytes some zero_is) in
       let long : length (found_volume p).bytes ≡ volume_end p.bytes - 0 =
       length-cut readings.Volume (searched p.nest) 0 (volume_end p.bytes) p (omega arith) (lies.1) in
-      subst (Keeps (2 * m - 2 + n)) (sym (run_found kind p ps e d))
+      subst (Keeps (2 * m - 2 + n)) (sym (found_inside kind p ps e d))
       (keeps_more _ (2 * m - 2 + n) _ (omega (arith, long, lies.0, lies.1))
       (volume_keeps (found_volume p) _ (2 * (m - volume_end p.bytes) + n) (omega (arith, long, lies.0)) (omega (arith, long, lies.1, room))
       (omega (arith, shallow, found))
@@ -289,7 +281,7 @@ body_keep nest form p ps n lies volume room s k = go form (nest.levels == 0) ref
       let levels : 0 < nest.levels = grind (arith, nat_tests, e) in
       put readings.Volume (opened nest) (λ _. (long refl, omega (arith, s, levels))) (λ _. omega arith)
 
--- the portions of a section, and those after it
+-- the portions of a section, and the portions after it
 section_keeps : (p : PortionForm) (ps : List PortionForm) (n : ℕ) → begins_section p.bytes ≡ true → p.at + length p.bytes < 2 ^ 63
     → IsShallow 4 p.nest → Keeps n ps
     → Keeps (2 * length p.bytes - 1 + n) (ahead (cut (readings.Leaf kinds.SectionHeader none) (inside p.nest) 0 (section_header_len_at p.bytes) p)

@@ -38,7 +38,7 @@ use Rattle.fv_survey.specs.Words.{LostInSection, LostInVolume, LostSections, Por
 use Rattle.fv_survey.specs.Words.{UnreadBreaks, VolumeBreaks, after_as, ahead, begins_section, begins_usual, body_at, body_files}
 use Rattle.fv_survey.specs.Words.{body_form, body_inside, body_portion, body_reading, breaks, breaks_names, bytes_in, cells_by, cells_end}
 use Rattle.fv_survey.specs.Words.{cells_from, current_files, cut, damaged_piece, data_reading, file_inside, file_piece, first_start}
-use Rattle.fv_survey.specs.Words.{found_around, found_volume, has_finding, has_top_elsewhere, has_twins, headed_piece, inside, inside_as}
+use Rattle.fv_survey.specs.Words.{found_around, found_volume, image_portion, has_finding, has_top_elsewhere, has_twins, headed_piece, inside, inside_as}
 use Rattle.fv_survey.specs.Words.{is_leaf, is_opened, is_searched, is_stub_state, is_too_deep, kind_at, layout_of, lost_inside, lost_len}
 use Rattle.fv_survey.specs.Words.{may_be_header, may_begin, may_follow, name_findings, named_file, next_at, next_section, none, only}
 use Rattle.fv_survey.specs.Words.{opened, opened_around, parts_by, parts_in, piece_by, piece_inside, piece_said, piece_with}
@@ -51,8 +51,9 @@ use Rattle.fv_survey.specs.inner.Pieces.{IsPiece}
 use Rattle.fv_tree.specs.Words.{holds_sections}
 use Rattle.fv_survey.proofs.FindingLaws.{finding_is}
 use Rattle.fv_survey.proofs.FittingLaws.{ahead_by}
+use Rattle.fv_survey.proofs.NestLaws.{searched_leaf}
 use Rattle.fv_survey.proofs.PieceFindingLaws.{findings_honest, in_more, in_only, in_one, not_in_none, one_of_two}
-use Rattle.fv_survey.proofs.PlaceLaws.{IsPlaced, ReadsAs, Placed, begins, cut_bytes, inside_placed, after_placed}
+use Rattle.fv_survey.proofs.PlaceLaws.{IsPlaced, ReadsAs, Placed, begins, cut_bytes, inside_placed, after_placed, whole_placed}
 use Rattle.fv_survey.proofs.PortionLaws.{length-cut}
 use Rattle.fv_survey.proofs.ReadingLaws.{parted}
 use Rattle.fv_survey.proofs.RuleLaws.{volume_end_lies, parts_lie, piece_lies, section_lies, start_long}
@@ -923,13 +924,6 @@ not_searched : (kind : RowKind) → is_searched kind ≡ false → is_unread kin
 not_searched kinds.Unread e u = up_is_not_down _ refl e
 not_searched _ e u = never _ u
 
-searched_leaf : (kind : RowKind) → is_searched kind ≡ true → is_leaf kind ≡ true
-searched_leaf kinds.Volume e = never _ e
-searched_leaf kinds.File e = never _ e
-searched_leaf kinds.Section e = never _ e
-searched_leaf kinds.Lost e = never _ e
-searched_leaf _ e = refl
-
 first_reason : (b : List ℕ) (around before : List Row) (reading : Reading) (p : PortionForm) → ReadsAs reading (length p.bytes)
     → FitsAs reading p.nest (length p.bytes) → InAs b around before reading p → ReasonAs (row_as reading p).kind around (row_as reading p)
 first_reason b around before (readings.Leaf kind findings) p reads fit read =
@@ -983,11 +977,5 @@ all_honest b around before (Tree row below after) (p ∷ ps) (placed, reads, apa
 
 -- the survey of an image is honest
 pub is_honest : (b : List ℕ) → AllByRecursion Fits (whole_image b) → (f : Forest) → Reads f (whole_image b) → IsHonest b [] [] f
-is_honest b fits f r = all_honest b [] [] f (whole_image b) (ahead_by (Placed b) image [] placed (λ _. tt)) fits
-    (put_in b [] image [] (λ _. record { found = refl; read = λ k. never _ k }) (λ _. tt) []) r
-  where
-    image : PortionForm
-    image = record { reading = readings.Run kinds.Gap; nest = record { depth = 0; levels = 8; found = 8 }; at = 0; bytes = b }
-
-    placed : 0 < length b → Placed b (image ∷ [])
-    placed s = (record { some = s; bytes = sym (take_all (length b) b (omega arith)) }, refl, λ _. tt, tt)
+is_honest b fits f r = all_honest b [] [] f (whole_image b) (whole_placed b) fits
+    (put_in b [] (image_portion b) [] (λ _. record { found = refl; read = λ k. never _ k }) (λ _. tt) []) r

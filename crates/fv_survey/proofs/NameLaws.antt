@@ -1,6 +1,7 @@
 -- The names of the files of a volume. The steps:
 -- 1. A walk over the cells has passed some files, and others are left (`InWalk`, `walk_on`, `walk_end`).
--- 2. A file that ends where the volume ends is the last of the files (`ends_last`), also of those that a filter keeps.
+-- 2. A file that ends where the volume ends is the last of the files, and the last of the files that a filter keeps
+--    (`ends_last`).
 -- 3. So a volume top file that is not superseded is elsewhere if it does not end at the end (`top_end`). It is
 --    superseded exactly if it is marked, and there is a volume top file that is not marked (`top_elsewhere`).
 -- 4. The first file with an earlier twin shows whether there are twins (`twins_decided`).
@@ -37,7 +38,7 @@ use Rattle.fv_survey.proofs.RuleLaws.{piece_lies}
 -- ---- a walk over the cells
 
 module _ (layout : Layout) (len : ℕ) where
-  -- the walk has passed the files `passed` of all files, and comes to the cells r at the offset `at`
+  -- the walk has passed the files `passed` of all files, and the cells r, at the offset `at`, are left
   abbrev pub FilesLeft : ℕ → List ℕ → List BodyFile → List BodyFile → Type 0
   FilesLeft at r passed all = (n : ℕ) × (length r ≤ n) × (passed ++ files_among layout len n at r ≡ all)
 

@@ -79,7 +79,7 @@ onwards_rest : (reading : Reading) (n : ℕ) (p : PortionForm) → n ≤ length 
     → Onwards p n (λ ps. ahead (cut reading p.nest n (length p.bytes) p) ps)
 onwards_rest reading n p l ps end chain = chain_put reading p.nest n (length p.bytes) p ps _ end refl l (omega arith) chain
 
-searched_leaf : (kind : RowKind) → is_searched kind ≡ true → is_leaf kind ≡ true
+pub searched_leaf : (kind : RowKind) → is_searched kind ≡ true → is_leaf kind ≡ true
 searched_leaf kinds.Volume e = absurd (let bad : false ≡ true = e in cc)
 searched_leaf kinds.File e = absurd (let bad : false ≡ true = e in cc)
 searched_leaf kinds.Section e = absurd (let bad : false ≡ true = e in cc)

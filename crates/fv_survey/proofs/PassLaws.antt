@@ -2,8 +2,8 @@
 -- 1. Only the rows of a run are part of a run (`first_in_run`).
 -- 2. So what begins with the first row of a run ends where the run ends (`rest_ends`).
 -- 3. No volume may begin in the bytes of a run before its first volume, and one may begin there (`run_sought`).
-use Rattle.std.proofs.Common.{◌≡◌, ◌≤◌, ◌<◌, ◌^◌, ◌||◌, ◌==◌, ℕ, ◌+◌, ◌-◌, List, [], ◌∷◌, Bool, true, false, if◌then◌else◌, arith}
-use Rattle.std.proofs.Common.{length, take, drop, drop-drop, take_all, nat_lt, ltb-false, ltb-true, refl, sym, ap, ◌∙◌, subst}
+use Rattle.std.proofs.Common.{◌≡◌, ◌≤◌, ◌<◌, ◌||◌, ◌==◌, ℕ, ◌+◌, ◌-◌, List, [], ◌∷◌, Bool, true, false, if◌then◌else◌, arith}
+use Rattle.std.proofs.Common.{length, take, drop, drop-drop, nat_lt, ltb-false, ltb-true, refl, sym, ap, ◌∙◌, subst}
 use Rattle.std.proofs.lemmas.List.{drop-take}
 use Rattle.fv_base.specs.Words.{field}
 use Rattle.fv_base.specs.declared.fault.FaultKind.TheVariants as faults
@@ -22,7 +22,7 @@ use Rattle.fv_survey.specs.Words.{is_too_deep, kind_at, may_begin, none, only, p
 use Rattle.fv_survey.specs.Words.{run_after, run_end, run_row, section_findings, section_opening, volume_end, volume_said, whole_image}
 use Rattle.fv_survey.specs.Words.{with_if}
 use Rattle.fv_survey.proofs.FittingLaws.{ahead_by}
-use Rattle.fv_survey.proofs.PlaceLaws.{is_run, ReadsAs, IsPlaced, NoRun, Placed, cut_bytes, begins, inside_placed, after_placed}
+use Rattle.fv_survey.proofs.PlaceLaws.{is_run, ReadsAs, IsPlaced, NoRun, Placed, cut_bytes, begins, inside_placed, after_placed, whole_placed}
 use Rattle.fv_survey.proofs.PortionLaws.{length-cut}
 use Rattle.fv_survey.proofs.RuleLaws.{volume_end_lies}
 use Rattle.fv_survey.proofs.StartLaws.{begins_long, start_within, start_none}
@@ -210,10 +210,5 @@ all_passed b (Tree row below after) (p ∷ ps) (placed, reads, apart, rest) (e, 
 )
 
 -- the survey of an image passes no volume in its runs
-pub passes : (b : List ℕ) → length b < 2 ^ 63 → (f : Forest) → Reads f (whole_image b) → PassesNothing b 0 f
-passes b _ f r = all_passed b f (whole_image b) (ahead_by (Placed b) image [] some (λ _. tt)) r where
-  image : PortionForm
-  image = record { reading = readings.Run kinds.Gap; nest = record { depth = 0; levels = 8; found = 8 }; at = 0; bytes = b }
-
-  some : 0 < length b → Placed b (image ∷ [])
-  some s = (record { some = s; bytes = sym (take_all (length b) b (omega arith)) }, refl, λ _. tt, tt)
+pub passes : (b : List ℕ) (f : Forest) → Reads f (whole_image b) → PassesNothing b 0 f
+passes b f r = all_passed b f (whole_image b) (whole_placed b) r

@@ -32,7 +32,7 @@ counted_ones b small = omega arith
 
 -- ---- lost bytes
 
--- of the words from the place `at` on, those before the first at which a piece may begin follow the bytes so far
+-- the words from the place `at` on, up to the first word at which a piece may begin, follow the bytes so far
 pub record Searched (layout : Layout) (r : List ℕ) (total at : ℕ) : Type 0 where
   pub words : ℕ
   pub whole : at + 8 * words ≡ length r

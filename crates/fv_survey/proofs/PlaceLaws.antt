@@ -4,7 +4,7 @@
 -- 3. So the portions in the first row of a portion are placed, and the portions after this row (`inside_placed`,
 --    `after_placed`).
 use Rattle.std.proofs.Common.{◌≡◌, ◌≤◌, ◌<◌, ◌||◌, ◌==◌, ℕ, zero, suc, ◌+◌, ◌-◌, ◌⊎◌, inl, inr, List, [], ◌∷◌, Bool, true, false}
-use Rattle.std.proofs.Common.{length, take, drop, drop-drop, nat_lt, ltb-false, if◌then◌else◌, refl, sym, ap, ◌∙◌, subst, arith}
+use Rattle.std.proofs.Common.{length, take, drop, drop-drop, take_all, nat_lt, ltb-false, if◌then◌else◌, refl, sym, ap, ◌∙◌, subst, arith}
 use Rattle.fv_base.specs.Words.{all_are, erased_byte, field}
 use Rattle.fv_base.proofs.Laws.{cases_lt}
 use Rattle.fv_base.specs.declared.fault.FaultKind.TheVariants as faults
@@ -28,7 +28,7 @@ use Rattle.fv_survey.specs.Words.{PortionForm, after_as, ahead, begins_section, 
 use Rattle.fv_survey.specs.Words.{body_reading, cells_end, cut, data_reading, file_inside, first_start, found_volume, inside, inside_as}
 use Rattle.fv_survey.specs.Words.{is_opened, is_searched, is_too_deep, kind_at, layout_of, lost_inside, may_begin, next_at, none, only}
 use Rattle.fv_survey.specs.Words.{opened, parts_by, parts_inside, piece_by, piece_inside, place_findings, run_inside, run_row, searched}
-use Rattle.fv_survey.specs.Words.{sections_inside, volume_end, volume_inside}
+use Rattle.fv_survey.specs.Words.{image_portion, sections_inside, volume_end, volume_inside, whole_image}
 use Rattle.fv_survey.specs.inner.Bounds.{PartsLie}
 use Rattle.fv_survey.proofs.FittingLaws.{ahead_by}
 use Rattle.fv_survey.proofs.PortionLaws.{length-cut}
@@ -312,3 +312,9 @@ after_placed b (readings.Sections odd) p ps placed reads apart rest = go (begins
       put_leaf b kinds.Filler p.nest (section_size_at p.bytes) (next_at p.bytes) p (ahead more ps) placed refl
       (put_other b next p.nest (next_at p.bytes) (length p.bytes) p ps placed refl tt rest)
   go false = rest
+
+-- an image is placed
+pub whole_placed : (b : List ℕ) → Placed b (whole_image b)
+whole_placed b = ahead_by (Placed b) (image_portion b) [] placed (λ _. tt) where
+  placed : 0 < length b → Placed b (image_portion b ∷ [])
+  placed s = (record { some = s; bytes = sym (take_all (length b) b (omega arith)) }, refl, λ _. tt, tt)

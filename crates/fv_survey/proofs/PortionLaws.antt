@@ -34,6 +34,13 @@ pub length-cut : (reading : Reading) (nest : Nesting) (from to : ℕ) (p : Porti
 length-cut reading nest from to p l u =
     length-take-le (to - from) (drop from p.bytes) (omega (arith, length-drop from p.bytes, l, u))
 
+-- a portion is put ahead if it has bytes
+pub ahead_none : (p : PortionForm) (ps : List PortionForm) → (length p.bytes == 0) ≡ true → ahead p ps ≡ ps
+ahead_none p ps e = rw e refl
+
+pub ahead_some : (p : PortionForm) (ps : List PortionForm) → (length p.bytes == 0) ≡ false → ahead p ps ≡ p ∷ ps
+ahead_some p ps e = rw e refl
+
 pub ahead_append : (p : PortionForm) (ps qs : List PortionForm) → ahead p (ps ++ qs) ≡ ahead p ps ++ qs
 ahead_append p ps qs = go (length p.bytes == 0) where
   go : (v : Bool) → (if v then ps ++ qs else p ∷ (ps ++ qs)) ≡ (if v then ps else p ∷ ps) ++ qs

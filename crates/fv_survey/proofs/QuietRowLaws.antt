@@ -17,7 +17,8 @@ use Rattle.fv_survey.specs.inner.Sound.{IsSound}
 use Rattle.fv_survey.proofs.AgreementLaws.{volume_is_clean}
 use Rattle.fv_survey.proofs.FittingLaws.{ahead_by}
 use Rattle.fv_survey.proofs.PieceBoundLaws.{piece_lies}
-use Rattle.fv_survey.proofs.RowAgreementLaws.{ahead_none, ahead_some, portion, rest_of, said_findings}
+use Rattle.fv_survey.proofs.PortionLaws.{ahead_none, ahead_some}
+use Rattle.fv_survey.proofs.RowAgreementLaws.{portion, rest_of, said_findings}
 use Rattle.fv_survey.proofs.RuleLaws.{section_lies}
 use Rattle.fv_survey.proofs.SoundLaws.{sound_is}
 use Rattle.fv_survey.specs.Words.{Bare, Clean, CleanAt, CleanPieces, CleanStream, Forest, IsCleanStream, IsCleanVolume, NoFindings}
@@ -57,7 +58,7 @@ no_rows fs (Tree row below after) = tt
 none_quiet : (fs : List BodyFile) → Quiet fs []
 none_quiet fs f reads = no_rows fs f
 
--- the rows of a portion and of those after it
+-- the rows of a portion and of the portions after it
 tree_quiet : (fs : List BodyFile) (p : PortionForm) (ps : List PortionForm)
     → ((first_row p).found ≡ false → (first_row p).findings ≡ none)
     → ((first_row p).found ≡ false → superseded_as p.reading fs p ≡ false → Quiet (files_as p.reading fs p) (inside_first p []))

@@ -6,7 +6,7 @@
 --    (`cells_rows`), if this is so of the streams and volumes inside them.
 -- 3. So a volume whose rows have no findings is clean (`volume_rows`), at every depth (`body_rows`), and has a meaning
 --    (`rows_mean`).
-use Rattle.std.proofs.Common.{◌≡◌, ◌≤◌, ◌<◌, ◌+◌, ◌-◌, ◌%◌, ◌==◌, ◌&&◌, ◌||◌, ℕ, [], ◌∷◌, not, Bool, true, false, if◌then◌else◌, bit_or, nat_lt}
+use Rattle.std.proofs.Common.{◌≡◌, ◌≤◌, ◌<◌, ◌+◌, ◌-◌, ◌==◌, ◌&&◌, ◌||◌, ℕ, [], ◌∷◌, not, Bool, true, false, if◌then◌else◌, bit_or, nat_lt}
 use Rattle.std.proofs.Common.{List, length, drop, refl, sym, ap, ◌∙◌, subst, arith, zero, suc, length-drop, take_all, eq-eqb, ltb-true}
 use Rattle.std.proofs.Common.{max}
 use Rattle.std.proofs.lemmas.Nat.Bits.{bit_at_or, bit_at-zero, same_from_bits}
@@ -16,10 +16,12 @@ use Rattle.fv_base.specs.declared.fault.FaultKind.TheVariants as faults
 use Rattle.fv_head.specs.Words.{is_one_volume, volume_len_at}
 use Rattle.fv_section.specs.Words.{section_header_len_at, section_size_at}
 use Rattle.fv_tree.specs.Words.{Denotes, Meaning, Opens, group_kind, holds_sections, volume_kind}
+use Rattle.fv_tree.proofs.Laws.{opens_decides}
 use Rattle.fv_survey.proofs.AgreementLaws.{volume_has_meaning}
-use Rattle.fv_survey.proofs.CleanSectionLaws.{opens_decides}
 use Rattle.fv_survey.proofs.CleanVolumeLaws.{files_not_store}
 use Rattle.fv_survey.proofs.HeaderAgreementLaws.{same_files}
+use Rattle.fv_survey.proofs.PortionLaws.{ahead_none, ahead_some}
+use Rattle.fv_survey.proofs.SectionAgreementLaws.{place_past}
 use Rattle.fv_survey.specs.Words.{Bare, Clean, CleanAt, CleanPieces, CleanStream, Forest, IsCleanStream, IsCleanVolume, NoFindings}
 use Rattle.fv_survey.specs.Words.{PortionForm, Reads, Tree, after_first, ahead, begins_section, bits_of, body_at, body_files, body_form}
 use Rattle.fv_survey.specs.Words.{body_inside, body_portion, cells_by, cells_end, cut, data_reading, file_inside, files_as, files_by}
@@ -53,12 +55,6 @@ portion reading nest at b = record { reading = reading; nest = nest; at = at; by
 -- a forest of the rows of these portions, none of which has findings
 abbrev Faultless : List BodyFile → List PortionForm → Type 0
 Faultless fs ps = (f : Forest) × Reads f ps × NoFindings fs f ps
-
-pub ahead_none : (p : PortionForm) (ps : List PortionForm) → (length p.bytes == 0) ≡ true → ahead p ps ≡ ps
-ahead_none p ps e = rw e refl
-
-pub ahead_some : (p : PortionForm) (ps : List PortionForm) → (length p.bytes == 0) ≡ false → ahead p ps ≡ p ∷ ps
-ahead_some p ps e = rw e refl
 
 is_some : (b : List ℕ) → 0 < length b → (length b == 0) ≡ false
 is_some b some = grind (arith, nat_tests, some)
@@ -146,13 +142,6 @@ some_section b = go (nat_lt (length b) 4) where
   go : (t : Bool) → (if t then only faults.SectionTail else only faults.SectionSize) ≡ none → ⊥
   go true e = let bit : 1048576 ≡ 0 = ap bits_of e in omega (arith, bit)
   go false e = let bit : 524288 ≡ 0 = ap bits_of e in omega (arith, bit)
-
-place_past : (at n : ℕ) → nat_lt at n ≡ false → place_findings at n ≡ none
-place_past at n past = go (not (at % 4 == 0)) (nat_lt at n) past where
-  go : (s t : Bool) → t ≡ false → with_if (s && t) faults.SectionSize none ≡ none
-  go true false e = refl
-  go false false e = refl
-  go s true e = cc
 
 -- ---- sections
 

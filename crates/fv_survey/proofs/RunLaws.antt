@@ -7,23 +7,19 @@ use Rattle.fv_survey.specs.declared.row.Row.{Row}
 use Rattle.fv_survey.specs.declared.row.RowKind.{RowKind}
 use Rattle.fv_survey.specs.Words.{PortionForm, ahead, cut, first_start, found_volume, row_of, run_after, run_inside, run_row, searched}
 use Rattle.fv_survey.specs.Words.{volume_end, volume_inside, volume_said}
-use Rattle.fv_survey.proofs.PortionLaws.{length-cut}
+use Rattle.fv_survey.proofs.PortionLaws.{ahead_none, length-cut}
 use Rattle.fv_survey.proofs.RuleLaws.{volume_end_lies}
 
 at_start : (b : List ℕ) → first_start b ≡ 0 → nat_lt 0 (first_start b) ≡ false
 at_start b e = grind (arith, nat_tests, e)
 
-too_deep : (n : ℕ) → n ≡ 0 → (n == 0) ≡ true
-too_deep n e = grind (arith, nat_tests, e)
+is_zero : (n : ℕ) → n ≡ 0 → (n == 0) ≡ true
+is_zero n e = grind (arith, nat_tests, e)
 
 may_nest : (n : ℕ) → 0 < n → (n == 0) ≡ false
 may_nest n l = grind (arith, nat_tests, l)
 
--- a portion without bytes is not put ahead
-pub ahead_none : (p : PortionForm) (ps : List PortionForm) → length p.bytes ≡ 0 → ahead p ps ≡ ps
-ahead_none p ps e = let z : (length p.bytes == 0) ≡ true = too_deep (length p.bytes) e in rw z refl
-
-deep_inside : (kind : RowKind) (p : PortionForm) (ps : List PortionForm) → nat_lt 0 (first_start p.bytes) ≡ false → (p.nest.found == 0) ≡ true
+pub deep_inside : (kind : RowKind) (p : PortionForm) (ps : List PortionForm) → nat_lt 0 (first_start p.bytes) ≡ false → (p.nest.found == 0) ≡ true
     → run_inside p (run_after kind p ps) ≡ ahead (cut (readings.Run kind) p.nest (length p.bytes) (length p.bytes) p) ps
 deep_inside kind p ps e d = rw (e, d) refl
 
@@ -31,11 +27,11 @@ deep_inside kind p ps e d = rw (e, d) refl
 pub run_deep : (kind : RowKind) (p : PortionForm) (ps : List PortionForm) → first_start p.bytes ≡ 0 → p.nest.found ≡ 0
     → run_inside p (run_after kind p ps) ≡ ps
 run_deep kind p ps e d =
-    deep_inside kind p ps (at_start p.bytes e) (too_deep p.nest.found d)
+    deep_inside kind p ps (at_start p.bytes e) (is_zero p.nest.found d)
     ∙ ahead_none (cut (readings.Run kind) p.nest (length p.bytes) (length p.bytes) p) ps
-    (length-cut (readings.Run kind) p.nest (length p.bytes) (length p.bytes) p (omega arith) (omega arith) ∙ (omega arith))
+    (is_zero _ (length-cut (readings.Run kind) p.nest (length p.bytes) (length p.bytes) p (omega arith) (omega arith) ∙ (omega arith)))
 
-found_inside : (kind : RowKind) (p : PortionForm) (ps : List PortionForm) → nat_lt 0 (first_start p.bytes) ≡ false → (p.nest.found == 0) ≡ false
+pub found_inside : (kind : RowKind) (p : PortionForm) (ps : List PortionForm) → nat_lt 0 (first_start p.bytes) ≡ false → (p.nest.found == 0) ≡ false
     → run_inside p (run_after kind p ps)
     ≡ volume_inside (found_volume p) (ahead (cut (readings.Run kind) p.nest (volume_end p.bytes) (length p.bytes) p) ps)
 found_inside kind p ps e d = rw (e, d) refl

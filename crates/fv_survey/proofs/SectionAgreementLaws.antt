@@ -128,12 +128,15 @@ next_last n b short =
 pub placed_four : (at n : ℕ) → at % 4 ≡ 0 → place_findings at n ≡ none
 placed_four at n four = rw (eq-eqb (at % 4) 0 four) refl
 
-pub placed_end : (at n : ℕ) → at ≡ n → place_findings at n ≡ none
-placed_end at n end = go (not (at % 4 == 0)) (nat_lt at n) (grind (arith, nat_tests, end)) where
+pub place_past : (at n : ℕ) → nat_lt at n ≡ false → place_findings at n ≡ none
+place_past at n past = go (not (at % 4 == 0)) (nat_lt at n) past where
   go : (s t : Bool) → t ≡ false → with_if (s && t) faults.SectionSize none ≡ none
   go true false e = refl
   go false false e = refl
   go s true e = cc
+
+pub placed_end : (at n : ℕ) → at ≡ n → place_findings at n ≡ none
+placed_end at n end = place_past at n (grind (arith, nat_tests, end))
 
 placed_is : (at n : ℕ) → at < n → place_findings at n ≡ none → at % 4 ≡ 0
 placed_is at n inside clean = go (at % 4 == 0) refl (nat_lt at n) (lt-ltb at n inside) clean where

@@ -84,7 +84,7 @@ follow_is (Err f) b found past first place =
 pub usual_never : (f : Fault) (b : List ℕ) → IsFirstFault (frame_checks 0 b) f → false ≡ begins_usual b
 usual_never f b first = rw ((faulty f b first).none) refl
 
--- the portions of a section that was read, and those after it
+-- the portions of a section that was read, and the portions after it
 pub section_inside : (p : PortionForm) (s : SectionPlace) (later : List PortionForm) → IsPlace p.bytes s
     → sections_inside p (sections_after p later)
     ≡ ahead (cut (readings.Leaf kinds.SectionHeader none) (inside p.nest) 0 s.header p)

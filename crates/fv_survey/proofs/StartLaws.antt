@@ -4,7 +4,7 @@ use Rattle.std.proofs.Common.{if◌then◌else◌, true≢false, ◌&&◌, refl,
 use Rattle.std.proofs.lemmas.List.{length-take}
 use Rattle.memchr.specs.Find.{OccursAt, Nowhere}
 use Rattle.memchr.proofs.lemmas.MatchLemmas.{OccursAt-from_part}
-use Rattle.fv_base.proofs.Laws.{cases_lt, and_split, bytes_eq-Decides, drop_of_length-le}
+use Rattle.fv_base.proofs.Laws.{cases_lt, and_split, bytes_eq-Decides, drop_of_length-le, up_is_not_down}
 use Rattle.fv_head.specs.Words.{has_signature, signature_bytes}
 use Rattle.fv_survey.specs.Words.{first_start, may_begin}
 
@@ -127,11 +127,7 @@ start_nowhere b ended k = go (cases_lt k (length b)) where
 pub start_is : (b : List ℕ) (at : ℕ) → at ≤ length b → ((k : ℕ) → k < at → may_begin (drop k b) ≡ false)
     → (at < length b → may_begin (drop at b) ≡ true) → first_start b ≡ at
 start_is b at within before here = same (cases_lt (first_start b) at) (cases_lt at (first_start b)) where
-  clash : (t : Bool) → t ≡ true → t ≡ false → ⊥
-  clash true e f = cc
-  clash false e f = cc
-
   same : (first_start b < at) ⊎ (at ≤ first_start b) → (at < first_start b) ⊎ (first_start b ≤ at) → first_start b ≡ at
-  same (inl l) m = absurd (clash _ (start_begins b (omega (arith, l, within))) (before (first_start b) l))
-  same (inr l) (inl m) = absurd (clash _ (here (omega (arith, m, start_within b))) (start_none b at m))
+  same (inl l) m = absurd (up_is_not_down _ (start_begins b (omega (arith, l, within))) (before (first_start b) l))
+  same (inr l) (inl m) = absurd (up_is_not_down _ (here (omega (arith, m, start_within b))) (start_none b at m))
   same (inr l) (inr m) = omega (arith, l, m)

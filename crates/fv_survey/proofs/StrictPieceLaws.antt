@@ -10,7 +10,7 @@ use Rattle.fv_base.specs.declared.fault.Fault.{Fault}
 use Rattle.fv_base.specs.declared.flash.FileSystem.{FileSystem}
 use Rattle.fv_base.specs.declared.flash.Polarity.{Polarity}
 use Rattle.fv_base.specs.declared.flash.Polarity.TheVariants.{Ones, Zeros}
-use Rattle.fv_file.proofs.Laws.{none_after, only_one}
+use Rattle.fv_file.proofs.Laws.{header_least, none_after, only_one}
 use Rattle.fv_file.specs.Words.{CellForm, Free, Tiles, NoneFree, is_free, file_checks, stub_checks, state_checks, cell_checks, file_header_len}
 use Rattle.fv_file.specs.Words.{file_header_len_at, file_size_at, file_size_in, is_large, bits_of, state_in, state_of, allows_large}
 use Rattle.fv_file.specs.Words.{left_at, CellsLeft, Walked, IsNextFault, cell_form}
@@ -170,10 +170,6 @@ same_sizes files.Unknown true r is allowed = cc
 abbrev pub Fit : Sizes → List ℕ → Type 0
 Fit sizes r = (24 ≤ sizes.header) × (sizes.header ≤ sizes.size) × (sizes.size ≤ length r)
 
-least_header : (large : Bool) → 24 ≤ file_header_len large
-least_header false = omega arith
-least_header true = omega arith
-
 -- if the checks of a file hold, the sizes are possible
 file_fit : (f : Files) (alive : Bool) (r : List ℕ) → AllHold (file_checks (system_by f) alive 0 r) → Fit (sizes_by f r) r
 unfolding sizes_by
@@ -181,7 +177,7 @@ file_fit f alive r (allowed, (within, (zero, (fits, more)))) =
     let same = same_sizes f (is_large (slice_index r 19)) r refl allowed in
     let parts = and_split (nat_le (file_header_len_at r) (file_size_at r)) _ fits in
     let ends = and_split (nat_le (file_size_at r) (length r)) _ parts.1 in
-    rw (same.1, same.0) (least_header (is_large (slice_index r 19)), leb-true _ _ parts.0, leb-true _ _ ends.0)
+    rw (same.1, same.0) (header_least (is_large (slice_index r 19)), leb-true _ _ parts.0, leb-true _ _ ends.0)
 
 state_fit : (f : Files) (o : Option FileState) (r : List ℕ) → is_stub_state o ≡ false → (o ≡ Some states.Free → ⊥)
     → AllHold (state_checks o (system_by f) 0 r) → Fit (sizes_by f r) r

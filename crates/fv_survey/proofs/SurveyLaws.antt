@@ -6,10 +6,8 @@ use Rattle.std.proofs.Common.{sym, ap, ◌∙◌, ◌++◌, append-nil, subst, a
 use Rattle.fv_survey.specs.declared.row.Row.{Row}
 use Rattle.std.specs.List.{AllByRecursion}
 use Rattle.fv_base.proofs.Laws.{nat_tests}
-use Rattle.fv_survey.specs.declared.portion.Reading.TheVariants as readings
-use Rattle.fv_survey.specs.declared.row.RowKind.TheVariants as kinds
 use Rattle.fv_survey.specs.Words.{Fits, Follow, Forest, IsForest, IsHonest, PassesNothing, PortionForm, Tile, TileEach, leaves_of}
-use Rattle.fv_survey.specs.Words.{most_rows, survey_of, whole_image}
+use Rattle.fv_survey.specs.Words.{Reads, image_portion, most_rows, survey_of, whole_image}
 use Rattle.fv_survey.specs.inner.Chains.{Chain}
 use Rattle.fv_survey.proofs.ForestLaws.{leaves_follow}
 use Rattle.fv_survey.proofs.HonestLaws.{is_honest}
@@ -18,10 +16,6 @@ use Rattle.fv_survey.proofs.NestLaws.{reads_nest}
 use Rattle.fv_survey.proofs.PassLaws.{passes}
 use Rattle.fv_survey.proofs.ReadingLaws.{has_forest, rows_few}
 
--- the image as one portion
-abbrev whole : List ℕ → PortionForm
-whole b = record { reading = readings.Run kinds.Gap; nest = record { depth = 0; levels = 8; found = 8 }; at = 0; bytes = b }
-
 -- an image as a list of portions fits, begins at the first byte and ends with the last
 record IsWhole (b : List ℕ) (ps : List PortionForm) : Type 0 where
   fit : AllByRecursion Fits ps
@@ -29,7 +23,7 @@ record IsWhole (b : List ℕ) (ps : List PortionForm) : Type 0 where
 
 is_whole : (b : List ℕ) → length b < 2 ^ 63 → IsWhole b (whole_image b)
 is_whole b room = go (length b == 0) refl where
-  go : (v : Bool) → (length b == 0) ≡ v → IsWhole b (if v then [] else whole b ∷ [])
+  go : (v : Bool) → (length b == 0) ≡ v → IsWhole b (if v then [] else image_portion b ∷ [])
   go true e =
       let bare : length b ≡ 0 = grind (arith, nat_tests) in
       record { fit = tt; chain = sym bare }
@@ -43,12 +37,19 @@ is_whole b room = go (length b == 0) refl where
 pub whole_fits : (b : List ℕ) → length b < 2 ^ 63 → AllByRecursion Fits (whole_image b)
 whole_fits b room = (is_whole b room).fit
 
-pub nesting : (b : List ℕ) → length b < 2 ^ 63 → (f : Forest) × IsForest (length b) (survey_of b) f
+-- the rows are the rows of a forest, which is the reading of the image
+read_forest : (b : List ℕ) → length b < 2 ^ 63 → (f : Forest) × IsForest (length b) (survey_of b) f × Reads f (whole_image b)
 unfolding survey_of
-nesting b room =
+read_forest b room =
     let image = is_whole b room in
-    let grown = has_forest (whole_image b) image.fit in
-    (grown.forest, (grown.rows, reads_nest grown.forest (whole_image b) 0 0 (length b) grown.reads image.fit image.chain))
+    let grown = has_forest (whole_image b) image.fit in (
+      grown.forest,
+      (grown.rows, reads_nest grown.forest (whole_image b) 0 0 (length b) grown.reads image.fit image.chain),
+      grown.reads,
+    )
+
+pub nesting : (b : List ℕ) → length b < 2 ^ 63 → (f : Forest) × IsForest (length b) (survey_of b) f
+nesting b room = let r = read_forest b room in (r.0, r.1)
 
 -- every byte of the image is in exactly one leaf row
 pub tiling : (b : List ℕ) → length b < 2 ^ 63 → Tile (length b) (survey_of b)
@@ -62,7 +63,7 @@ inside b room = let n = nesting b room in subst TileEach (sym n.1.0) (tile_all (
 
 whole_few : (b : List ℕ) → most_rows (whole_image b) ≤ 2 * length b
 whole_few b = go (length b == 0) where
-  go : (v : Bool) → most_rows (if v then [] else whole b ∷ []) ≤ 2 * length b
+  go : (v : Bool) → most_rows (if v then [] else image_portion b ∷ []) ≤ 2 * length b
   go true = omega arith
   go false = omega arith
 
@@ -72,25 +73,11 @@ few b = omega (arith, rows_few (whole_image b), whole_few b)
 
 -- no place where a volume may begin is passed over
 pub passing : (b : List ℕ) → length b < 2 ^ 63 → (f : Forest) × IsForest (length b) (survey_of b) f × PassesNothing b 0 f
-unfolding survey_of
-passing b room =
-    let image = is_whole b room in
-    let grown = has_forest (whole_image b) image.fit in (
-      grown.forest,
-      (grown.rows, reads_nest grown.forest (whole_image b) 0 0 (length b) grown.reads image.fit image.chain),
-      passes b room grown.forest grown.reads,
-    )
+passing b room = let r = read_forest b room in (r.0, r.1, passes b r.0 r.2)
 
 -- each finding says what is so, and bytes are lost or unread only for a reason
 pub honest : (b : List ℕ) → length b < 2 ^ 63 → (f : Forest) × IsForest (length b) (survey_of b) f × IsHonest b [] [] f
-unfolding survey_of
-honest b room =
-    let image = is_whole b room in
-    let grown = has_forest (whole_image b) image.fit in (
-      grown.forest,
-      (grown.rows, reads_nest grown.forest (whole_image b) 0 0 (length b) grown.reads image.fit image.chain),
-      is_honest b image.fit grown.forest grown.reads,
-    )
+honest b room = let r = read_forest b room in (r.0, r.1, is_honest b (whole_fits b room) r.0 r.2)
 
 -- the rows of a walk that has ended are the rows of the survey
 pub all_lent : (rows walk new : List Row) (b : List ℕ) (next : Option Row) → rows ++ walk ≡ survey_of b → next ≡ None

@@ -12,10 +12,11 @@ use Rattle.fv_head.specs.declared.extent.Extent.{Extent}
 use Rattle.fv_tree.specs.Words.{Accepted, Denotes, Meaning, head_of}
 use Rattle.fv_survey.proofs.HeaderAgreementLaws.{clean_begins, same_extent}
 use Rattle.fv_survey.proofs.QuietRowLaws.{meaning_rows}
-use Rattle.fv_survey.proofs.RowAgreementLaws.{ahead_none, ahead_some, none_united, portion, rest_of, rows_mean}
+use Rattle.fv_survey.proofs.PortionLaws.{ahead_none, ahead_some}
+use Rattle.fv_survey.proofs.RowAgreementLaws.{none_united, portion, rest_of, rows_mean}
 use Rattle.fv_survey.proofs.RuleLaws.{start_long}
 use Rattle.fv_survey.specs.Words.{Agree, Bare, Forest, IsCleanImage, IsVolumePortion, PortionForm, Reads, Tree, cut, files_by, files_for}
-use Rattle.fv_survey.specs.Words.{first_row, first_start, found_volume, has_right_header, image_volume, inside_first, is_known, may_begin}
+use Rattle.fv_survey.specs.Words.{first_row, first_start, found_volume, has_right_header, image_portion, image_volume, inside_first, is_known, may_begin}
 use Rattle.fv_survey.specs.Words.{name_findings, none, parts_by, plain_opening, row_of, run_after, run_row, volume_end, volume_inside}
 use Rattle.fv_survey.specs.Words.{volume_said, whole_image}
 use Rattle.fv_survey.specs.declared.systems.Files.TheVariants as files
@@ -31,10 +32,6 @@ agrees n p f is reads = (
 )
 
 -- ---- a whole image
-
--- an image as a portion
-abbrev image : List ℕ → PortionForm
-image b = portion (readings.Run kinds.Gap) (record { depth = 0; levels = 8; found = 8 }) 0 b
 
 known : (s : FileSystem) → is_known (files_for s) ≡ true
 known systems.Ffs2 = refl
@@ -66,23 +63,23 @@ starts b m d =
     }
 
 -- the rows of an accepted image
-image_rows : (b : List ℕ) (m : Meaning) (f : Forest) → Denotes 8 b m → Starts b → Reads f (image b ∷ []) → IsCleanImage b f
+image_rows : (b : List ℕ) (m : Meaning) (f : Forest) → Denotes 8 b m → Starts b → Reads f (image_portion b ∷ []) → IsCleanImage b f
 image_rows b m Bare d s reads = let bad = reads in cc
 image_rows b m (Tree row below after) d s (is, reads, more) =
     let all : field 0 (volume_end b - 0) b ≡ b = take_all (volume_end b - 0) b (omega (arith, s.end)) in
-    let volume : found_volume (image b) ≡ image_volume b =
+    let volume : found_volume (image_portion b) ≡ image_volume b =
     ap (λ (c : List ℕ). portion readings.Volume (record { depth = 0; levels = 8; found = 7 }) 0 c) all in
-    let first : run_row kinds.Gap (image b) ≡ row_of (volume_said true (found_volume (image b)).bytes) (volume_end b)
-    (image b) = rw s.start refl in
-    let inner : inside_first (image b) [] ≡ volume_inside (image_volume b) [] =
-    ap (λ t. if t then [] else volume_inside (found_volume (image b)) []) (ap (λ t. t || (8 == 0)) s.start)
+    let first : run_row kinds.Gap (image_portion b) ≡ row_of (volume_said true (found_volume (image_portion b)).bytes) (volume_end b)
+    (image_portion b) = rw s.start refl in
+    let inner : inside_first (image_portion b) [] ≡ volume_inside (image_volume b) [] =
+    ap (λ t. if t then [] else volume_inside (found_volume (image_portion b)) []) (ap (λ t. t || (8 == 0)) s.start)
     ∙ ap (λ (q : PortionForm). volume_inside q []) volume in
-    let whole : row ≡ row_of (volume_said true (found_volume (image b)).bytes) (volume_end b) (image b) = is ∙ first in
+    let whole : row ≡ row_of (volume_said true (found_volume (image_portion b)).bytes) (volume_end b) (image_portion b) = is ∙ first in
     let rows = meaning_rows 8 (image_volume b) (Tree (first_row (image_volume b)) below Bare) m refl refl (omega arith) d
     (refl, subst (Reads below) inner reads, refl) in
-    let none_after : run_after kinds.Gap (image b) [] ≡ [] =
-    ahead_none (cut (readings.Run kinds.Gap) (image b).nest (run_row kinds.Gap (image b)).length (length b) (image b)) []
-    (no_bytes (run_row kinds.Gap (image b)).length (ap (λ (r : Row). r.length) first ∙ s.end)) in
+    let none_after : run_after kinds.Gap (image_portion b) [] ≡ [] =
+    ahead_none (cut (readings.Run kinds.Gap) (image_portion b).nest (run_row kinds.Gap (image_portion b)).length (length b) (image_portion b)) []
+    (no_bytes (run_row kinds.Gap (image_portion b)).length (ap (λ (r : Row). r.length) first ∙ s.end)) in
     record {
       row = row;
       below = below;
@@ -107,25 +104,25 @@ image_rows b m (Tree row below after) d s (is, reads, more) =
 pub accepted_image : (b : List ℕ) (m : Meaning) (f : Forest) → Accepted b m → Reads f (whole_image b) → IsCleanImage b f
 accepted_image b m f (small, d) reads =
     let s = starts b m d in
-    image_rows b m f d s (subst (Reads f) (ahead_some (image b) [] (grind (arith, nat_tests, s.some))) reads)
+    image_rows b m f d s (subst (Reads f) (ahead_some (image_portion b) [] (grind (arith, nat_tests, s.some))) reads)
 
 -- an image whose survey is one clean volume, which is not a variable store, is accepted by the strict reading
-image_mean : (b : List ℕ) (f : Forest) → IsBytes b → ((parts_by b).files ≡ files.Store → ⊥) → 0 < length b → Reads f (image b ∷ [])
+image_mean : (b : List ℕ) (f : Forest) → IsBytes b → ((parts_by b).files ≡ files.Store → ⊥) → 0 < length b → Reads f (image_portion b ∷ [])
     → IsCleanImage b f → (m : Meaning) × Accepted b m
 image_mean b f small filed some reads c =
-    let read = subst (λ (g : Forest). Reads g (image b ∷ [])) c.one reads in
+    let read = subst (λ (g : Forest). Reads g (image_portion b ∷ [])) c.one reads in
     let start : nat_lt 0 (first_start b) ≡ false = at_start (nat_lt 0 (first_start b)) refl read.0 in
     let zero : first_start b ≡ 0 = grind (arith, nat_tests, start) in
     let long : 56 ≤ length b = start_long b some zero in
-    let first : run_row kinds.Gap (image b) ≡ row_of (volume_said true (found_volume (image b)).bytes) (volume_end b) (image b) =
-    rw start refl in
-    let whole : c.row ≡ row_of (volume_said true (found_volume (image b)).bytes) (volume_end b) (image b) = read.0 ∙ first in
+    let first : run_row kinds.Gap (image_portion b) ≡ row_of (volume_said true (found_volume (image_portion b)).bytes) (volume_end b)
+    (image_portion b) = rw start refl in
+    let whole : c.row ≡ row_of (volume_said true (found_volume (image_portion b)).bytes) (volume_end b) (image_portion b) = read.0 ∙ first in
     let end : volume_end b ≡ length b = sym (ap (λ (r : Row). r.length) whole) ∙ c.size in
     let all : field 0 (volume_end b - 0) b ≡ b = take_all (volume_end b - 0) b (omega (arith, end)) in
-    let volume : found_volume (image b) ≡ image_volume b =
+    let volume : found_volume (image_portion b) ≡ image_volume b =
     ap (λ (d : List ℕ). portion readings.Volume (record { depth = 0; levels = 8; found = 7 }) 0 d) all in
-    let inner : inside_first (image b) [] ≡ volume_inside (image_volume b) [] =
-    ap (λ t. if t then [] else volume_inside (found_volume (image b)) []) (ap (λ t. t || (8 == 0)) start)
+    let inner : inside_first (image_portion b) [] ≡ volume_inside (image_volume b) [] =
+    ap (λ t. if t then [] else volume_inside (found_volume (image_portion b)) []) (ap (λ t. t || (8 == 0)) start)
     ∙ ap (λ (q : PortionForm). volume_inside q []) volume in
     let clean : (volume_said true b).findings ≡ none =
     sym (ap (λ (r : Row). r.findings) whole ∙ ap (λ (d : List ℕ). (volume_said true d).findings) all) ∙ c.clean in
@@ -137,10 +134,10 @@ image_mean b f small filed some reads c =
     (refl, subst (Reads c.below) inner read.1, refl) (λ plain. (clean, λ kept. c.inner), tt) in
     (found.0, (small, found.1))
   where
-    at_start : (t : Bool) → nat_lt 0 (first_start b) ≡ t → c.row ≡ run_row kinds.Gap (image b) → t ≡ false
+    at_start : (t : Bool) → nat_lt 0 (first_start b) ≡ t → c.row ≡ run_row kinds.Gap (image_portion b) → t ≡ false
     at_start false e is = refl
     at_start true e is =
-        let first : run_row kinds.Gap (image b) ≡ row_of (plain_opening kinds.Gap none) (first_start b) (image b) = rw e refl in
+        let first : run_row kinds.Gap (image_portion b) ≡ row_of (plain_opening kinds.Gap none) (first_start b) (image_portion b) = rw e refl in
         let no : false ≡ true = sym (ap (λ (r : Row). r.found) (is ∙ first)) ∙ c.found in cc
 
 -- so an image is accepted by the strict reading exactly if its survey is one clean volume, and not a variable store
@@ -148,6 +145,6 @@ pub clean_image : (b : List ℕ) (f : Forest) → IsBytes b → ((parts_by b).fi
     → IsCleanImage b f → (m : Meaning) × Accepted b m
 clean_image b f small filed reads c = go (length b == 0) refl where
   go : (t : Bool) → (length b == 0) ≡ t → (m : Meaning) × Accepted b m
-  go true e = absurd (subst (λ (g : Forest). Reads g []) c.one (subst (Reads f) (ahead_none (image b) [] e) reads))
+  go true e = absurd (subst (λ (g : Forest). Reads g []) c.one (subst (Reads f) (ahead_none (image_portion b) [] e) reads))
   go false e =
-      image_mean b f small filed (grind (arith, nat_tests, e)) (subst (Reads f) (ahead_some (image b) [] e) reads) c
+      image_mean b f small filed (grind (arith, nat_tests, e)) (subst (Reads f) (ahead_some (image_portion b) [] e) reads) c

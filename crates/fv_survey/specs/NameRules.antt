@@ -71,8 +71,8 @@ has_top_elsewhere (f ∷ g ∷ fs) = is_top f || has_top_elsewhere (g ∷ fs)
 
 -- ---- the findings
 
--- the findings of a volume with these files: DuplicateName if two of them are twins, and TopFile if, of those that are
--- not superseded, a volume top file is not at the end
+-- the findings of a volume with these files: DuplicateName if two of the files are twins, and TopFile if, among the
+-- files that are not superseded, a volume top file is not at the end
 abbrev pub files_findings : List BodyFile → Findings
 files_findings fs =
     with_if (has_top_elsewhere (current_files fs)) faults.TopFile

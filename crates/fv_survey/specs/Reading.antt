@@ -263,10 +263,14 @@ rows_up_to (suc n) (p ∷ ps) = first_row p ∷ rows_up_to n (inside_first p (af
 abbrev pub rows_left : List PortionForm → List Row
 rows_left ps = rows_up_to (most_rows ps) ps
 
--- an image as a portion: bytes without a structure, in which volumes are looked for
+-- an image as a portion: bytes without a structure, in which volumes are looked for; and as a list of portions, which is
+-- empty if the image has no bytes
+abbrev pub image_portion : List ℕ → PortionForm
+image_portion b =
+    record { reading = readings.Run kinds.Gap; nest = record { depth = 0; levels = 8; found = 8 }; at = 0; bytes = b }
+
 abbrev pub whole_image : List ℕ → List PortionForm
-whole_image b =
-    ahead (record { reading = readings.Run kinds.Gap; nest = record { depth = 0; levels = 8; found = 8 }; at = 0; bytes = b }) []
+whole_image b = ahead (image_portion b) []
 
 -- the rows of the survey of an image, in preorder
 unfoldable pub survey_of : List ℕ → List Row

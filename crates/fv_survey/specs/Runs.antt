@@ -28,8 +28,8 @@ is_searched _ = false
 abbrev pub in_run : Row → Bool
 in_run row = is_searched row.kind || row.found
 
--- where a run ends that has come to the offset `at`, before these trees: at the end of the last of the first trees that
--- are part of a run
+-- where a run ends that reaches the offset `at`, if these trees come next: at the end of the last of the first trees
+-- that are part of a run
 abbrev pub run_end : ℕ → Forest → ℕ
 run_end at Bare = at
 run_end at (Tree row below after) = if in_run row then run_end (row.offset + row.length) after else at

@@ -85,7 +85,7 @@ has_zero_sum n b = (n % 2 == 0) && has_sum n b
 abbrev pub has_blocks : ℕ → List ℕ → Bool
 has_blocks n b = (n % 8 == 0) && nat_le 64 n && has_block_map n b
 
--- HeaderLength is one that a header may have, and within the bytes
+-- HeaderLength is a length that a header may have, and lies within the bytes
 abbrev pub has_strict_len : List ℕ → Bool
 has_strict_len b = is_header_len (header_len_at b) && nat_le (header_len_at b) (length b)
 
@@ -112,7 +112,7 @@ header_kinds =
     kinds.Truncated ∷ kinds.Signature ∷ kinds.FileSystem ∷ kinds.Revision ∷ kinds.HeaderLength ∷ kinds.HeaderSum
     ∷ kinds.BlockMap ∷ kinds.Length ∷ kinds.ExtHeader ∷ []
 
--- the number that keeps the set `bits` and those of the kinds whose rules the header breaks
+-- the number that keeps the set `bits`, with each of these kinds whose rule the header breaks
 abbrev pub with_breaks : ℕ → List ℕ → List FaultKind → ℕ
 with_breaks bits b [] = bits
 with_breaks bits b (k ∷ ks) = with_breaks (if breaks k b then bit_or bits (bit_of_kind k) else bits) b ks

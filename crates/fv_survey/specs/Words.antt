@@ -32,7 +32,7 @@ pub use Rattle.fv_survey.specs.Reading.{data_reading, piece_said, file_inside, p
 pub use Rattle.fv_survey.specs.Reading.{cells_after, kind_at, body_at, next_at, is_too_deep, body_reading}
 pub use Rattle.fv_survey.specs.Reading.{body_portion, sections_inside, sections_after, row_as, first_row, inside_as}
 pub use Rattle.fv_survey.specs.Reading.{inside_first, after_as, after_first, most_as, most_rows, rows_up_to}
-pub use Rattle.fv_survey.specs.Reading.{rows_left, whole_image}
+pub use Rattle.fv_survey.specs.Reading.{rows_left, image_portion, whole_image}
 unfoldable pub use Rattle.fv_survey.specs.Reading.{survey_of}
 pub use Rattle.fv_survey.specs.Reads.{Reads}
 pub use Rattle.fv_survey.specs.Agreement.{files_for, SameExtent, HasData, ReadAs, SameSection, SectionsAs}

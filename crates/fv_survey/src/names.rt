@@ -139,9 +139,9 @@ fn has_early_top(files: &[BodyFile], has_update: bool) -> bool
     files.iter().any(|file| is_top(file) && !file.is_at_end && !(file.is_marked && has_update))
 }
 
-// Returns whether, of the files that are not superseded, a volume top file is not at the end. A file
-// that ends where the volume ends is the last of all files. A marked volume top file is superseded
-// exactly if there is one that is not marked.
+// Returns whether, among the files that are not superseded, a volume top file is not at the end. A
+// file that ends where the volume ends is the last of all files. A marked volume top file is
+// superseded exactly if another volume top file is not marked.
 fn has_top_elsewhere(files: &[BodyFile]) -> bool
     requires { EndIsLast files.now }
     ensures { result ≡ has_top_elsewhere (current_files files.now) }

@@ -114,7 +114,7 @@ fn has_zero_sum(bytes: &[u8], header: usize) -> bool
     header % 2 == 0 && sum16(&bytes[..header]) == 0
 }
 
-// Returns whether HeaderLength is one that a header may have, and within the bytes.
+// Returns whether HeaderLength is a length that a header may have, and lies within the bytes.
 fn has_strict_len(bytes: &[u8]) -> bool
     requires { 56 ≤ length bytes.now }
     ensures { result ≡ has_strict_len bytes.now }

@@ -163,7 +163,7 @@ fn sums_to_zero(rest: &[u8], header: usize) -> bool
     header <= rest.len() && header_sum(&rest[..header]) == 0
 }
 
-// Returns whether a file checksum covers the data, or is one that tools write if it does not.
+// Returns whether a file checksum covers the data, or is a value that tools write if it does not.
 fn is_usual_sum(rest: &[u8]) -> bool
     requires { 24 ≤ length rest.now }
     ensures { result ≡ rules.is_usual_sum rest.now }
@@ -171,7 +171,7 @@ fn is_usual_sum(rest: &[u8]) -> bool
     rest[19] / 64 % 2 == 1 || rest[17] == 0xaa || rest[17] == 0x5a || rest[17] == 0
 }
 
-// Returns whether a type is one that the specification defines or leaves to others.
+// Returns whether the specification defines a type, or leaves it to others.
 fn is_usual_type(kind: u8) -> bool
     ensures { result ≡ rules.is_usual_type kind }
 {

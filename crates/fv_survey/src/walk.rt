@@ -166,7 +166,7 @@ pub fn survey(alloc: Global, image: &[u8]) -> Result<SurveyRows, Fault>
     // Every byte of the image is in exactly one leaf row.
     ensures tiling { IfOk result (λ rows. Tile (length image.now) rows) }
 
-    // The rows in a row are the deeper rows after it, up to the first that is not deeper, and their leaf rows tile it.
+    // The rows in a row are the deeper rows after it, up to the first row that is not deeper. Their leaf rows tile it.
     ensures inside { IfOk result (λ rows. TileEach rows) }
 
     // The rows in a row lie one after another from its first byte to its end, and are one deeper than it.

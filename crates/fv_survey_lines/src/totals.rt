@@ -32,7 +32,7 @@ static LEAF_KINDS: [RowKind; 17] = [
     RowKind::Unread,
 ];
 
-/// What the rows of a survey come to.
+/// The totals of the rows of a survey.
 #[derive(Clone, Copy)]
 pub(crate) struct Totals {
     /// The number of bytes in the leaf rows of each kind, in the order of `LEAF_KINDS`.

@@ -2,13 +2,13 @@
 use Rattle.std.proofs.Common.{◌≡◌, ℕ, ◌∙◌, List, Bool, true, false, cond, inl, inr, subst, sym, Option, None, Some, Vec, Global}
 use Rattle.fv_text.specs.Words.{Change}
 use Rattle.fv_command.specs.Words.{HasText, Runs, RunsOver, CommandRunText, OpenText, PackedText, TaskText}
-use Rattle.fv_command.specs.Words.{found_status, opened_status, part_status}
+use Rattle.fv_command.specs.Words.{found_status, opened_status, part_status, survey_status}
 use Rattle.fv_command.specs.declared.ending.Ending.{Ending}
 use Rattle.fv_command.specs.declared.ending.Refusal.{Refusal}
 use Rattle.fv_command.specs.declared.packed.Packed.{Packed}
 use Rattle.fv_command.specs.declared.packed.Packed.TheVariants as packed
 use Rattle.fv_command.specs.declared.status.Status.{Status}
-use Rattle.fv_command.specs.declared.status.Status.TheVariants.{Done, Different, Faulty, Refused, WrongArguments}
+use Rattle.fv_command.specs.declared.status.Status.TheVariants.{Done, Different, Faulty, Incomplete, Refused, WrongArguments}
 use Rattle.fv_extract.specs.declared.outcome.Outcome.{Outcome}
 use Rattle.fv_extract.specs.declared.outcome.Outcome.TheVariants.{Put, NotFound, NotSectioned}
 use Rattle.fv_plan.specs.declared.plan.Command.{Command}
@@ -16,7 +16,7 @@ use Rattle.fv_plan.specs.declared.plan.Plan.{Plan}
 use Rattle.fv_plan.specs.declared.plan.Task.{Task}
 use Rattle.fv_plan.specs.declared.plan.Command.TheVariants.{Single, Hobs, Open, Compare}
 use Rattle.fv_plan.specs.declared.plan.Task.TheVariants.{Normalise, NormaliseAll, List as Listing, ListSums, ListOpened}
-use Rattle.fv_plan.specs.declared.plan.Task.TheVariants.{Extract, ExtractOpened, Check, CheckAll, Cells, Unfix, Scan}
+use Rattle.fv_plan.specs.declared.plan.Task.TheVariants.{Extract, ExtractOpened, Check, CheckAll, Cells, Unfix, Scan, Survey}
 
 part_not_wrong : (outcome : Outcome) → WrongArguments ≡ part_status outcome → ⊥
 part_not_wrong Put is = cc
@@ -37,6 +37,10 @@ checks_not_wrong true another is = cc
 checks_not_wrong false true is = cc
 checks_not_wrong false false is = cc
 
+survey_not_wrong : (clean : Bool) → WrongArguments ≡ survey_status clean → ⊥
+survey_not_wrong true is = cc
+survey_not_wrong false is = cc
+
 says_not_wrong : (task : Task) (hex : Bool) (input text : List ℕ) → TaskText task hex input WrongArguments text → ⊥
 says_not_wrong Normalise hex input text said = said
 says_not_wrong NormaliseAll hex input text said = said
@@ -51,6 +55,8 @@ says_not_wrong CheckAll hex input text (checks, found, is, text_is) = checks_not
 says_not_wrong Cells hex input text said = said
 says_not_wrong Unfix hex input text said = said
 says_not_wrong Scan hex input text said = said
+says_not_wrong Survey hex input text (inl (is, all)) = survey_not_wrong _ is
+says_not_wrong Survey hex input text (inr (is, front)) = let bad : WrongArguments ≡ Incomplete = is in cc
 
 packed_not_wrong : (hex : Bool) (p : Packed) (text : List ℕ) → PackedText hex p WrongArguments text → ⊥
 packed_not_wrong hex (packed.Section frame) text said = said

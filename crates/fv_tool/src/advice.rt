@@ -19,6 +19,7 @@ pub const SYNOPSIS: &str = "\
     fvtool open [--section PATH] [--at N] [--hex] [FILE]\n\
     fvtool check [--at N | --all] [--hex] [FILE]\n\
     fvtool scan [--hex] [FILE]\n\
+    fvtool survey [--hex] [FILE]\n\
     fvtool compare [--at N] [--other-at N] [--hex] A B\n\
     fvtool hobs [--image IMG --base N] [--hex] [FILE]";
 
@@ -32,6 +33,7 @@ pub const COMMANDS: &str = "\
     open       writes the contents of a compressed or GUID-defined section\n\
     check      reports whether a volume is its own canonical image; with --all each volume\n\
     scan       finds the volumes in an image\n\
+    survey     lists what each byte of an image is, also where a volume is rejected\n\
     compare    reports whether two volumes mean the same, or where they first differ\n\
     hobs       lists the blocks of a hand-off list\n\
     --open     goes through compressed and GUID-defined sections: for list and extract\n\
@@ -61,6 +63,10 @@ pub const FAULTY: &str = "\
 pub const RAN_OUT: &str = "\
     memory ran out while a packed section was opened or read, so the output does not have what is in \
     this section (try again with more memory)";
+
+/// The message about a survey in which memory ran out.
+pub const CUT_SHORT: &str = "\
+    memory ran out, so the output has only the first lines (try again with more memory)";
 
 /// What to do about a result that was not written.
 pub const INCOMPLETE: &str = "check the exit status: the output is incomplete";
@@ -131,6 +137,9 @@ pub enum Advice<'a> {
     /// Memory ran out in a packed section, and the result lacks what is in this section. The input is
     /// the file at this path, or None if it is not known or is standard input.
     Incomplete(Option<&'a str>),
+    /// Memory ran out in a survey, and the result has only the first lines. The image is the file at
+    /// this path, or None if it is not known or is standard input.
+    CutShort(Option<&'a str>),
     /// A write of the result failed.
     NotWritten,
     /// The image has no volume. The message says how to search for one.
@@ -167,6 +176,7 @@ impl fmt::Display for Advice<'_> {
             Advice::Refused(cause) => write!(f, "fvtool: {cause}"),
             Advice::Faulty(path) => write!(f, "fvtool: {}{FAULTY}", Head(*path)),
             Advice::Incomplete(path) => write!(f, "fvtool: {}{RAN_OUT}", Head(*path)),
+            Advice::CutShort(path) => write!(f, "fvtool: {}{CUT_SHORT}", Head(*path)),
             Advice::NotWritten => write!(f, "fvtool: {} ({INCOMPLETE})", FaultKind::WriteFault),
             Advice::NoVolume => write!(f, "fvtool: no volume was found ({FURTHER})\n{SEARCH}"),
         }

@@ -94,11 +94,25 @@ fn explain_rejected_volume<P: Process>(alloc: Global, process: &P) {
     process.advise(Advice::Faulty(path.map(|path| path.as_str())));
 }
 
-// Says that memory ran out in a packed section.
+// Returns whether the command is a survey.
+fn is_survey(command: &Command) -> bool {
+    match command {
+        Command::Single { task, .. } => matches!(task, Task::Survey),
+        _ => false,
+    }
+}
+
+// Says that memory ran out in a survey, or in a packed section.
 fn explain_incomplete<P: Process>(alloc: Global, process: &P) {
     let plan = plan_of(alloc, process);
-    let path = plan.as_ref().and_then(|plan| plan.first());
-    process.advise(Advice::Incomplete(path.map(|path| path.as_str())));
+    let path = plan
+        .as_ref()
+        .and_then(|plan| plan.first())
+        .map(|path| path.as_str());
+    match &plan {
+        Some(plan) if is_survey(&plan.command) => process.advise(Advice::CutShort(path)),
+        _ => process.advise(Advice::Incomplete(path)),
+    }
 }
 
 // Returns whether the command writes a line for each volume of an image, and nothing else.
@@ -118,8 +132,9 @@ fn explain_no_output<P: Process>(alloc: Global, process: &P) {
 }
 
 /// Explains on standard error how a run ended: the fault that stopped it, a failed write, the fault
-/// in its arguments, that a volume was rejected, or that memory ran out in a packed section. Only at
-/// a terminal it shows the forms of a wrong command line, and reports that no volume was found.
+/// in its arguments, that a volume was rejected, or that memory ran out in a survey or in a packed
+/// section. Only at a terminal it shows the forms of a wrong command line, and reports that no volume
+/// was found.
 pub fn advise<P: Process>(alloc: Global, process: &P, ending: Ending, is_written: bool) {
     if let Some(refusal) = ending.refusal {
         explain_refusal(alloc, process, refusal);

@@ -26,6 +26,10 @@ constants! {
     u32: FV_CELL_FILE = 1, FV_CELL_PAD = 2, FV_CELL_DELETED = 3, FV_CELL_UNFINISHED = 4, FV_CELL_FREE = 5;
     u32: FV_NODE_VOLUME = 1, FV_NODE_FILE = 2, FV_NODE_SECTION = 3;
     u32: FV_CONTENT_FILES = 0, FV_CONTENT_BYTES = 1, FV_CONTENT_SECTIONS = 2, FV_CONTENT_VOLUME = 3;
+    u32: FV_ROW_VOLUME = 1, FV_ROW_FILE = 2, FV_ROW_SECTION = 3, FV_ROW_LOST = 4, FV_ROW_VOLUME_HEADER = 5,
+        FV_ROW_EXT_HEADER = 6, FV_ROW_FILE_HEADER = 7, FV_ROW_SECTION_HEADER = 8, FV_ROW_DATA = 9, FV_ROW_BODY = 10,
+        FV_ROW_PACKED = 11, FV_ROW_PAD = 12, FV_ROW_PAD_DATA = 13, FV_ROW_DEAD = 14, FV_ROW_STUB = 15, FV_ROW_FREE = 16,
+        FV_ROW_FILLER = 17, FV_ROW_BETWEEN = 18, FV_ROW_GAP = 19, FV_ROW_STORE = 20, FV_ROW_UNREAD = 21;
     u32: FV_FILE_RAW = 0x01, FV_FILE_FREEFORM = 0x02, FV_FILE_SECURITY_CORE = 0x03, FV_FILE_PEI_CORE = 0x04,
         FV_FILE_DXE_CORE = 0x05, FV_FILE_PEIM = 0x06, FV_FILE_DRIVER = 0x07, FV_FILE_COMBINED_PEIM_DRIVER = 0x08,
         FV_FILE_APPLICATION = 0x09, FV_FILE_MM = 0x0A, FV_FILE_FIRMWARE_VOLUME_IMAGE = 0x0B,
@@ -51,6 +55,8 @@ structures! {
         attributes: u32 = 28, file_system: u32 = 32, erased_byte: u32 = 36, name: fv_guid = 40, reserved: u64 = 56;
     fv_volume_check, 48, 8: offset: u64 = 0, length: u64 = 8, fault: fv_fault = 16, canonical: u32 = 40,
         reserved: u32 = 44;
+    fv_survey_row, 56, 8: offset: u64 = 0, length: u64 = 8, kind: u32 = 16, depth: u32 = 20, efi_type: u32 = 24,
+        found: u32 = 28, findings: u32 = 32, name: fv_guid = 36, reserved: u32 = 52;
     fv_comparison, 16, 8: text_length: u64 = 0, same: u32 = 8, reserved: u32 = 12;
     fv_cell, 56, 8: offset: u64 = 0, length: u64 = 8, kind: u32 = 16, header_length: u32 = 20, efi_type: u32 = 24,
         attributes: u32 = 28, name: fv_guid = 32, reserved: u64 = 48;
@@ -73,6 +79,8 @@ extern "C" {
     pub fn fv_image_check(image: *const c_void, size: usize, rows: *mut fv_volume_check, room: usize, count: *mut usize,
         fault: *mut fv_fault) -> fv_result;
     pub fn fv_image_normalise(image: *const c_void, size: usize, buffer: *mut c_void, buffer_size: usize,
+        fault: *mut fv_fault) -> fv_result;
+    pub fn fv_image_survey(image: *const c_void, size: usize, rows: *mut fv_survey_row, room: usize, count: *mut usize,
         fault: *mut fv_fault) -> fv_result;
     pub fn fv_volume_is_canonical(volume: *const c_void, size: usize, canonical: *mut u32, fault: *mut fv_fault) ->
         fv_result;

@@ -27,7 +27,7 @@ macro_rules! fault_kinds {
 
         impl FaultKind {
             /// Returns the kind for a result of a call.
-            fn of(result: u32) -> FaultKind {
+            pub(crate) fn of(result: u32) -> FaultKind {
                 match result {
                     $(sys::$result => FaultKind::$name,)*
                     _ => FaultKind::Other(result),

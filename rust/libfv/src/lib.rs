@@ -13,6 +13,7 @@
 //! | Which volumes does an image have, and where? | [`image::scan`] |
 //! | Which volumes of an image are canonical? | [`image::check`] |
 //! | What is an image with each volume canonical? | [`image::normalise`] |
+//! | What is each byte of an image, and what is wrong? | [`image::survey`] |
 //! | Is a volume its own canonical image? | [`volume::is_canonical`] |
 //! | What is the canonical image of a volume? | [`volume::normalise`] |
 //! | What is a volume without the marks of fixed files? | [`volume::unfix`] |

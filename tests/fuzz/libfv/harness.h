@@ -64,6 +64,7 @@ extern unsigned long runs;
 int LLVMFuzzerTestOneInput(const uint8_t *data, size_t size);
 void try_volume(const uint8_t *bytes, size_t len, const uint8_t *parameters);
 void try_image(const uint8_t *bytes, size_t len, const uint8_t *parameters);
+void try_survey(const uint8_t *bytes, size_t len, const uint8_t *parameters, const fv_header *headers, size_t volumes);
 void try_expression(const uint8_t *bytes, size_t len, const uint8_t *parameters);
 void try_hand_off_list(const uint8_t *bytes, size_t len, const uint8_t *parameters);
 void try_sections(const uint8_t *bytes, size_t len, const uint8_t *parameters);

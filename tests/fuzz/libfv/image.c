@@ -109,4 +109,5 @@ void try_image(const uint8_t *bytes, size_t len, const uint8_t *parameters)
     saw(__func__, count > 9 ? 9 : (uint32_t)count, 0, 0);
     try_image_normalise(bytes, len, count, parameters);
     try_image_check(bytes, len, count, parameters);
+    try_survey(bytes, len, parameters, headers, count);
 }

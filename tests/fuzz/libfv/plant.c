@@ -35,7 +35,11 @@ enum {
     KEPT_MARK,       /* with FV_WITHOUT_MARKS the last row has the attribute of a fixed file, if it was one */
     MARKED_DIGEST,   /* tree_digests_with ignores its flags */
     MARKED_PART,     /* extract_with ignores its flags for the first row */
-    MARKED_STREAM    /* sections_tree ignores its flags */
+    MARKED_STREAM,   /* sections_tree ignores its flags */
+    SHORT_LEAF,      /* the third row of a survey is one byte shorter */
+    DEEP_ROW,        /* the last row of a survey with exactly five rows is one deeper */
+    NO_FINDING,      /* the first row of a survey has no finding */
+    FULL_BUFFER      /* the last element of a buffer is left out if it is too small for a survey */
 };
 
 #define WRAPS(call) __typeof__(call) __wrap_##call, __real_##call
@@ -44,6 +48,7 @@ WRAPS(fv_volume_unfix);
 WRAPS(fv_volume_compare);
 WRAPS(fv_image_scan);
 WRAPS(fv_image_check);
+WRAPS(fv_image_survey);
 WRAPS(fv_volume_tree);
 WRAPS(fv_volume_tree_digests);
 WRAPS(fv_volume_extract);
@@ -135,6 +140,21 @@ fv_result __wrap_fv_image_check(const void *image, size_t size, fv_volume_check 
     fv_result result = __real_fv_image_check(image, size, rows, room, count, fault);
     if (planted() == UNMOVED_FAULT && !result && *count > 1 && rows[1].fault.result)
         rows[1].fault.offset -= rows[1].offset;
+    return result;
+}
+
+fv_result __wrap_fv_image_survey(const void *image, size_t size, fv_survey_row *rows, size_t room, size_t *count,
+                                 fv_fault *fault)
+{
+    static fv_survey_row before;
+    if (room) before = rows[room - 1];
+    fv_result result = __real_fv_image_survey(image, size, rows, room, count, fault);
+    int plant = planted();
+    if (plant == FULL_BUFFER && result == FV_BUFFER_TOO_SMALL && room) rows[room - 1] = before;
+    if (result) return result;
+    if (plant == SHORT_LEAF && *count > 2) rows[2].length--;
+    if (plant == DEEP_ROW && *count == 5) rows[4].depth++;
+    if (plant == NO_FINDING && *count) rows[0].findings = 0;
     return result;
 }
 

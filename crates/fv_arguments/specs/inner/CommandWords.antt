@@ -27,7 +27,8 @@ app_named name =
     else (if bytes_eq name (codes "compare") then compare_app
     else (if bytes_eq name (codes "list") then list_app
     else (if bytes_eq name (codes "open") then open_app
-    else (if bytes_eq name (codes "scan") then one_input_app else volume_app)))))))
+    else (if bytes_eq name (codes "scan") then one_input_app
+    else (if bytes_eq name (codes "survey") then one_input_app else volume_app))))))))
 
 -- the task of `list`, by whether `--sums` and `--open` are given: there is none if both are given
 abbrev pub list_task : (sums opened : Bool) → Option Task

@@ -1,9 +1,9 @@
 //! Failed allocations: `tests/program/test_memory.py` makes each allocation of the test fail in
 //! turn, and no wrong result may be returned.
 
+use crate::memory_ran_out::is_right_or_out_of_memory;
 use fv_packed::{PackedFault, PackedFaultKind};
 use fv_tiano::{Width, decode};
-use std::alloc::Global;
 
 /// The bytes `abababab`, by EDK II's `TianoCompress`.
 const PACKED: [u8; 20] = [
@@ -11,31 +11,14 @@ const PACKED: [u8; 20] = [
     0x19, 0x80, 0x33, 0x00,
 ];
 
-// Returns whether the fault says that memory ran out.
-fn is_out_of_memory(fault: &PackedFault) -> bool {
-    fault.kind == PackedFaultKind::OutOfMemory && fault.offset == 0
-}
-
-// Returns whether the data give `abababab`, or memory ran out.
-fn is_decoded_or_memory_ran_out(alloc: Global) -> bool {
-    match decode(alloc, &PACKED, Width::Tiano, 8) {
-        Ok(bytes) => bytes.as_slice() == b"abababab".as_slice(),
-        Err(fault) => is_out_of_memory(&fault),
-    }
-}
-
-// Returns whether the first 19 bytes are rejected as short, or memory ran out.
-fn is_rejected_or_memory_ran_out(alloc: Global) -> bool {
-    match decode(alloc, &PACKED[..19], Width::Tiano, 8) {
-        Ok(_) => false,
-        Err(fault) => {
-            is_out_of_memory(&fault) || fault.kind == PackedFaultKind::Short && fault.offset == 19
-        }
-    }
-}
-
 #[test]
 fn out_of_memory_is_reported(rt: HostRuntime) {
-    assert!(rt; is_decoded_or_memory_ran_out(rt.alloc()));
-    assert!(rt; is_rejected_or_memory_ran_out(rt.alloc()));
+    let short = PackedFault {
+        kind: PackedFaultKind::Short,
+        offset: 19,
+    };
+    let whole = decode(rt.alloc(), &PACKED, Width::Tiano, 8);
+    assert!(rt; is_right_or_out_of_memory(whole, Ok(b"abababab")));
+    let cut = decode(rt.alloc(), &PACKED[..19], Width::Tiano, 8);
+    assert!(rt; is_right_or_out_of_memory(cut, Err(short)));
 }

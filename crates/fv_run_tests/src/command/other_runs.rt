@@ -33,6 +33,9 @@ pub(crate) fn small_runs() -> &'static str {
         4142434445464748494a4b4c4d4e4f505152535455565758595a616263646566 \
         4142434445464748494a4b4c4d4e4f505152535455565758595a616263646566 0abc\n\
     scan: 11*8 empty 22*16 H72 33*8 -> 0 volume at 8 length 128|volume at 152 length 72|\n\
+    survey: H128 ff*55 00 -> 1 volume at 0 length 128 system 8c8ce578-8a3d-4f1c-9935-896185c32dd3 found|  \
+        volume-header at 0 length 72|  free at 72 length 48 finding 16|  lost at 120 length 8 finding 16|    unread at 120 \
+        length 8|sums volume-header 72 free 48 unread 8 all 128 findings 2 fixed 0|\n\
     cells: deleted-file -> 0 header at 0 length 72|deleted at 72 length 32|free at 104 length 24|sums files 0 pads 0 \
         deleted 32 filler 0 free 24|\n\
     unfix: H128 0a*16 43aa0104180000f8 ff*32 -> 0 =H128 0a*16 47aa0100180000f8 ff*32\n\

@@ -41,6 +41,7 @@ fn commands() -> &'static str {
     extract 0a 19 3: fv extract --name NAME --section 19 --instance 3\n\
     extract 0b - 1: fv extract --name 0b0b0b0b-0b0b-0b0b-0b0b-0b0b0b0b0b0b\n\
     scan: fv scan\n\
+    survey: fv survey\n\
     cells: fv cells\n\
     unfix: fv unfix\n\
     open: fv open\n\

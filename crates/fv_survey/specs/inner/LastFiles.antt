@@ -8,10 +8,11 @@ abbrev pub EndIsLast : List BodyFile → Type 0
 EndIsLast [] = Unit {0}
 EndIsLast (f ∷ fs) = (f.is_at_end ≡ true → fs ≡ []) × EndIsLast fs
 
--- the file is a volume top file that is not marked for update; and it is one that does not end where the volume ends, and
--- is not superseded, if `update` says whether there is a volume top file that is not marked
+-- the file is a volume top file that is not marked for update
 abbrev pub is_unmarked_top : BodyFile → Bool
 is_unmarked_top f = is_top f && not f.is_marked
 
+-- the file is a volume top file that does not end where the volume ends, and is not superseded. `update` says whether
+-- there is a volume top file that is not marked
 abbrev pub is_early_top : Bool → BodyFile → Bool
 is_early_top update f = is_top f && not f.is_at_end && not (f.is_marked && update)

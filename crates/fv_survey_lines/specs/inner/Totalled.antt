@@ -13,7 +13,7 @@ use Rattle.fv_survey_lines.specs.declared.totals.Totals.{Totals}
 abbrev pub sums_of : List Row → List ℕ
 sums_of rows = map (λ kind. bytes_of_kind kind rows) leaf_kinds
 
--- what some rows come to
+-- the totals of some rows
 abbrev pub totals_of : List Row → Totals
 totals_of rows = record {
   sums = sums_of rows;

@@ -51,3 +51,7 @@ returns-in-Unfix g c = rw c.in-Unfix.is c.put_unfixed.ensures
 
 pub returns-in-Scan : goal.returns-in-Scan
 returns-in-Scan g c = rw c.in-Scan.is (c.scan.ensures c.args.hex)
+
+pub returns-in-Survey : goal.returns-in-Survey
+returns-in-Survey g c =
+    let put = c.put_surveyed.ensures in rw c.in-Survey.is (put.0, put.1, put.2)

@@ -1,10 +1,7 @@
-use Rattle.std.proofs.Common.{◌≡◌, ◌==◌, ◌∙◌, List, ◌∷◌, length, false, ap, sym, refl}
-use Rattle.fv_survey.specs.Words.{PortionForm, ahead, portion_form, stack}
-use Rattle.fv_survey.proofs.PortionLaws.{stack_push}
+use Rattle.std.proofs.Common.{◌∙◌, ap, sym}
+use Rattle.fv_survey.specs.Words.{portion_form, stack}
+use Rattle.fv_survey.proofs.PortionLaws.{ahead_some, stack_push}
 use Rattle.fv_survey.proofs.portion.put.Goals as goal
-
-ahead_some : (p : PortionForm) (ps : List PortionForm) → (length p.bytes == 0) ≡ false → ahead p ps ≡ p ∷ ps
-ahead_some p ps e = rw e refl
 
 pub returns-in_ok-push-clause-put : goal.returns-in_ok-push-clause-put
 returns-in_ok-push-clause-put c =

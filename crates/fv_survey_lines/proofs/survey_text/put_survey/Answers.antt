@@ -25,16 +25,16 @@ loop-walk-smaller g c =
     let first : c.loop-walk.walk ≡ c.in-Some.row ∷ c.next_row.new.self = rw c.in-Some.is at c.in_ok-row.ensures.some in
     omega (arith, ap (λ (rows : List Row). length rows) first)
 
-pub returns : goal.returns
-returns g c =
+pub returns-clause-text : goal.returns-clause-text
+returns-clause-text g c =
     let none = rw c.in_default.is at c.in_ok-row.ensures.none in
     let (put, totals) = put_all c.loop-walk.invariant none.0 in
-    record {
-      text = g.S.Sink.laws.joined put (rw totals at c.put_totals.ensures);
-      clean = ap (λ (t : Totals). t.clean) totals;
-      err = tt;
-      front = tt;
-    }
+    g.S.Sink.laws.joined put (rw totals at c.put_totals.ensures)
+
+pub returns-clause-clean : goal.returns-clause-clean
+returns-clause-clean g c =
+    let none = rw c.in_default.is at c.in_ok-row.ensures.none in
+    ap (λ (t : Totals). t.clean) (put_all c.loop-walk.invariant none.0).1
 
 pub returns-in_err-row-clause-front : goal.returns-in_err-row-clause-front
 returns-in_err-row-clause-front g c = on_err c.from_residual-in_err-row.result (front c.loop-walk.invariant)
