@@ -3,4 +3,4 @@
 
 The modules were written from docs/FORMAT.md ("A tolerant reading"), docs/FAULTS.md and volume 3 of the PI specification.
 They know what the rows of a survey must satisfy, and not how a survey finds them. They share no code with the package
-for Python. The strict reading of a part is that of tests/second_reader.py."""
+for Python. tests/second_reader.py reads the parts strictly."""
