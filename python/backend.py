@@ -43,7 +43,7 @@ def first_of(what: str, *places: Path) -> bytes:
 
 def package() -> list[Path]:
     """Returns the files of the package, without the library."""
-    return [*sorted((HERE / "fv").glob("*.py")), HERE / "fv/guids.txt", HERE / "fv/py.typed"]
+    return [*sorted((HERE / "fv").glob("*.py")), *(HERE / "fv" / it for it in ("guids.txt", "page.css", "py.typed"))]
 
 
 def sources() -> dict[str, bytes]:

@@ -113,6 +113,9 @@ CHECKS = (
     Check("survey", "python3 -m tests.fuzz.survey --count 5000 --seed 1 --jobs 2 --plants", QUICK,
           "the rows of surveys of 5000 images with anomalies, and of 105 vendor-like images, keep the laws of a "
           "survey, and planted faults are found", after=("program", "library")),
+    Check("silent", "python3 -m tests.fuzz.silent --count 100 --seed 2 --jobs 2 --plants", QUICK,
+          "in 100 images with anomalies at every level, no driver is missing in silence, each range of bytes has its "
+          "row, and planted faults are noticed", after=("program", "library")),
     Check("memory", "tests.program.test_memory", 0,
           "the program and some tests with each allocation refused in turn, and the memory that a small file takes",
           after=("prove",), needs=("program",)),

@@ -61,11 +61,13 @@ _fvtool() {
                 "--section[the type of the section]:type:$sections" '--instance[which of these sections]:number:'
             ;;
         open) _arguments $at $hex '1:file:_files' '--section[the numbers of the section in list]:path:' ;;
-        scan | survey) _arguments $hex '1:file:_files' ;;
+        scan) _arguments $hex '1:file:_files' ;;
+        survey) _arguments $through $hex '1:file:_files' ;;
         compare)
             _arguments $at '--other-at[the same of the second input]:offset: _fvtool_offsets 2' $hex \
                 '1:first file:_files' '2:second file:_files'
             ;;
+        same) _arguments $hex '1:first file:_files' '2:second file:_files' ;;
         hobs)
             _arguments '--image[the image that holds the volumes]:file:_files' $hex '1:file:_files' \
                 "--base[the address of the image's first byte]:number:"

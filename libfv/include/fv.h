@@ -11,6 +11,8 @@
  *   Which volumes of a flash image are canonical?         fv_image_check            any bytes               5
  *   What is a flash image with each volume canonical?     fv_image_normalise        any bytes               5
  *   What is each byte of an image, and what is wrong?     fv_image_survey           any bytes               3
+ *   The same, also in packed sections, at every level?    fv_image_open             any bytes               see below
+ *   Do two images mean the same, at every level?          fv_image_same             any bytes, twice        see below
  *   Is a volume its own canonical image?                  fv_volume_is_canonical    a volume                5
  *   What is its canonical image?                          fv_volume_normalise       a volume                5
  *   What is a volume without the marks of fixed files?    fv_volume_unfix           a volume                none
@@ -23,9 +25,12 @@
  *   The same three, without the marks of fixed files?     fv_volume_.._with         a volume                1 more
  *   How is a packed section opened? How long is it then?  fv_section_way            a section, then more    none
  *   What are the contents of a packed section?            fv_section_open           a section, then more    see below
+ *   What is each byte of a stream, and what is wrong?     fv_sections_survey        any bytes               3
  *   What is in a stream of sections, at every level?      fv_sections_tree          a stream                22
  *   Which digest does each of these parts have?           fv_sections_tree_digests  a stream                9
  *   What are the bytes of one of these parts?             fv_sections_extract       a stream                5
+ *   What is in a variable store of EDK II?                fv_variables_read         any bytes               none
+ *   Which signatures do signature lists have?             fv_signatures_read        any bytes               none
  *   Is a dependency expression true?                      fv_depex_evaluate         expression, then more   18
  *   Which blocks does a hand-off list have?               fv_hobs_read              a list, then more       14
  *   What is a GUID as text?                               fv_guid_text              a GUID                  none
@@ -41,8 +46,15 @@
  * for inputs that consist of tiny parts only, which cost most. fv_section_open takes as many bytes as its contents have
  * if it has to decode them, and otherwise none. For LZMA it takes up to 6.1 MiB more, and if the stream does not say how
  * long the contents are, three times their bytes. With FV_WITHOUT_MARKS, each call takes the bytes of its input more.
+ * fv_image_open takes as many bytes as all contents have, and 56 for each row of a survey, until the image is closed. (A
+ * source has at most two rows for each byte, so the limit of the call bounds this.)
+ * While it runs, it takes the bytes of all contents once more, and what fv_section_open takes for the longest section.
+ * fv_image_same takes as many bytes as all contents of both images have, up to 4 times the bytes of both images and of
+ * their contents for the names of files, and what fv_section_open takes for the longest section.
  * Of address space, which a limit such as `ulimit -v` counts, the two calls that write digests take up to 16 times.
- * Stack: at most 29 KiB in fv_section_open, and 20.5 KiB in every other call, as measured.
+ * fv_image_open takes up to 16 times the size of the image more than its memory, and at most 1 GiB more.
+ * Stack: at most 29.5 KiB in fv_image_open and fv_image_same, 29 KiB in fv_section_open, and 20.5 KiB in every other
+ * call, as measured.
  *
  * Rules for the caller
  *   1. NULL. An input may be NULL if its size is 0, a buffer may be NULL if its room is 0, and `fault` may always be
@@ -55,8 +67,12 @@
  *      mapped, no device. No other thread may read a buffer or a result.
  *   6. No call may be made from a signal handler, nor in the child of a fork of a process with several threads (before
  *      the child calls exec).
+ *   7. An fv_image comes from fv_image_open, and is closed once, by fv_image_close. Until then the image that was passed
+ *      to fv_image_open stays where it is, and nothing writes to it. After that nothing uses the fv_image, nor anything
+ *      that it has lent.
  * Threads: the library keeps no state and takes no lock. Any number of threads may call it at once, even with the same
- * input, as far as malloc, realloc and free allow this.
+ * input, as far as malloc, realloc and free allow this. Any number of threads may use one fv_image at once, because it
+ * never changes. One thread closes it when no other uses it any more.
  *
  * Results: FV_OK is success. If several other results are possible, a call returns the first of them in this order:
  *   FV_BAD_ARGUMENT      A pointer breaks rule 1, 2 or 3, the phase is not one of FV_PHASE_*, or a flag is unknown. No
@@ -76,16 +92,17 @@
  *                        them, and the fields of `fault` are 0. Nothing else was written. So pass no buffer (NULL, and
  *                        room 0) to ask for the number of rows or bytes.
  * After any result except FV_OK the buffer is unchanged. After FV_OK, and only then, rows or bytes are written: to the
- * start of the buffer. The rest of the buffer is unchanged. fv_image_survey is the only exception: it keeps no rows in
- * memory, so after FV_BUFFER_TOO_SMALL the buffer is full of the first rows, and after FV_OUT_OF_MEMORY some of the
- * first rows may have been written to its start.
+ * start of the buffer. The rest of the buffer is unchanged. The exceptions keep no rows in memory: after
+ * FV_BUFFER_TOO_SMALL of fv_image_survey, fv_sections_survey, fv_variables_read and fv_signatures_read the buffer is full
+ * of the first rows, and after FV_OUT_OF_MEMORY of the first two, some of the first rows may have been written to its
+ * start.
  *
  * Growth within 2.x: calls, results, rows and fields keep their names, numbers, sizes and places.
  *   - `reserved` is 0, and may get a meaning: do not read it.
  *   - Results may be added. Treat every result except FV_OK, FV_BUFFER_TOO_SMALL, FV_NOT_FOUND and FV_BAD_ARGUMENT as a
  *     fault of the input.
  *   - FV_CELL_*, FV_NODE_*, FV_CONTENT_*, FV_DEPEX_* and FV_PHASE_* get no new member. FV_FILE_*, FV_SECTION_*,
- *     FV_WAY_* and FV_ROW_* may.
+ *     FV_WAY_*, FV_ROW_*, FV_PART_* and FV_FINDING_* may.
  *   - `efi_type` and `attributes` are bytes of the input, so they may have any value.
  *
  * All lengths and offsets are in bytes. A GUID has its bytes as in the volume: the least significant byte of each of
@@ -95,6 +112,7 @@
  * stored:
  *   fv_header, fv_cell, fv_hob  All fields. All cells are listed, also superseded and deleted files, although these are
  *   and fv_survey_row           not part of the meaning. A survey lists all bytes.
+ *   fv_variable_row             All fields. All bytes are listed.
  *   fv_node                     `offset` and, for a file, `header_length`. All other fields depend only on the meaning:
  *                               volumes of one meaning, such as a volume and its canonical image, have the same rows
  *                               except for these two fields.
@@ -109,12 +127,13 @@
  *     function below the call that compares them reports 0; but for the same two inputs, memory could also have run out
  *     while the second was read, so no statement about the arguments can show the difference);
  *   - how often fv_volume_tree and fv_volume_tree_digests read the input, that these calls and fv_sections_tree_digests
- *     keep no image in memory, and that fv_image_survey keeps no row in memory;
+ *     keep no image in memory, and that the two surveys keep no row in memory;
  *   - that fv_section_open stops decoding at its limit;
  *   - the numbers for memory and stack above, which were measured.
- * This header, the layer (src/calls.c: FV_BAD_ARGUMENT, and NULL in place of an empty argument), fv_guid_text and
- * fv_guid_parse (src/guid.c), src/heap.c and src/result_text.c are plain C, and not proved. The proofs hold only if the
- * caller keeps the rules 4 to 6. */
+ * This header, the layer (src/calls.c: FV_BAD_ARGUMENT, and NULL in place of an empty argument), fv_image and its calls
+ * (src/images.c), fv_guid_text and fv_guid_parse (src/guid.c), src/heap.c and src/result_text.c are plain C, and not
+ * proved. What fv_image_open finds is proved: the layer keeps it, and lends it. The proofs hold only if the caller keeps
+ * the rules 4 to 7. */
 #ifndef FV_H
 #define FV_H
 
@@ -128,6 +147,7 @@
 #define FV_VERSION_NUMBER 0x020100 /* major << 16 | minor << 8 | patch */
 
 #define FV_LENGTH_MAX 268435456u /* the most bytes of a volume, a stream, or an image that is checked or normalised */
+#define FV_CONTENTS_MAX 1073741824u /* the most bytes of all contents together that fv_image_open opens */
 #define FV_DIFFERENCE_SIZE 553   /* the most bytes of the text of fv_volume_compare, its NUL included */
 #define FV_GUID_TEXT_SIZE 37     /* the bytes of the text of fv_guid_text, its NUL included */
 #define FV_NO_PARENT UINT64_MAX  /* the parent of a row of depth 0, which no row holds */
@@ -296,6 +316,55 @@ enum {
     FV_SECTION_MM_DEPEX = 0x1C
 };
 
+/* What a row of variable stores or of signature lists is about: the header of a variable store; a variable, with its
+ * header, its name and its data; the header of a variable that was never finished; the bytes from the end of a variable
+ * to the next multiple of 4; erased bytes, which are 0xFF; the working block of the fault tolerant write driver, with its
+ * queue; the header of a signature list; a signature, with its owner; and bytes that cannot be read. */
+enum {
+    FV_PART_STORE_HEADER = 1,
+    FV_PART_VARIABLE = 2,
+    FV_PART_UNFINISHED = 3,
+    FV_PART_FILLER = 4,
+    FV_PART_FREE = 5,
+    FV_PART_WORKING_BLOCK = 6,
+    FV_PART_LIST_HEADER = 7,
+    FV_PART_SIGNATURE = 8,
+    FV_PART_UNREAD = 9
+};
+
+/* The finding of a row of variable stores or of signature lists. FV_FINDING_STORE_SIZE: Size of a store is not possible,
+ * so the store is read up to the end of the bytes. FV_FINDING_STORE_STATE: EDK II does not use the store, because Format
+ * is not 0x5A or State is not 0xFE. FV_FINDING_START_ID: the rest of a store does not begin with StartId, and is not
+ * erased. FV_FINDING_VARIABLE_SIZE: the rest of a store has no room for the variable with which it begins.
+ * FV_FINDING_QUEUE_SIZE: WriteQueueSize of a working block is not possible. FV_FINDING_NO_STORE: the bytes are outside
+ * of stores, and are not erased. FV_FINDING_LIST_SIZE: the sizes of a signature list are not possible, so no further
+ * list is read. FV_FINDING_SIGNATURE_SIZE: the rest of a signature list has no room for a signature. */
+enum {
+    FV_FINDING_STORE_SIZE = 1,
+    FV_FINDING_STORE_STATE = 2,
+    FV_FINDING_START_ID = 3,
+    FV_FINDING_VARIABLE_SIZE = 4,
+    FV_FINDING_QUEUE_SIZE = 5,
+    FV_FINDING_NO_STORE = 6,
+    FV_FINDING_LIST_SIZE = 7,
+    FV_FINDING_SIGNATURE_SIZE = 8
+};
+
+/* The formats of the variables of a store: VARIABLE_HEADER, of 32 bytes, or AUTHENTICATED_VARIABLE_HEADER, of 60. */
+enum { FV_STORE_PLAIN = 1, FV_STORE_AUTHENTICATED = 2 };
+
+/* What State of a variable says. FV_VARIABLE_ADDED (0x3F): the variable is there. FV_VARIABLE_REPLACED (0x3E): it is about
+ * to be replaced, and is there as long as no other variable with its name and vendor is added. FV_VARIABLE_DELETED (0x3D
+ * or 0x3C): it was deleted. FV_VARIABLE_HEADER_ONLY (0x7F): only its header was written in full. FV_VARIABLE_OTHER: any
+ * other byte. */
+enum {
+    FV_VARIABLE_ADDED = 1,
+    FV_VARIABLE_REPLACED = 2,
+    FV_VARIABLE_DELETED = 3,
+    FV_VARIABLE_HEADER_ONLY = 4,
+    FV_VARIABLE_OTHER = 5
+};
+
 /* The phase in which a dependency expression is evaluated. FV_PHASE_DXE is for DXE and for MM. */
 enum { FV_PHASE_PEI = 0, FV_PHASE_DXE = 1 };
 
@@ -332,6 +401,10 @@ enum {
     FV_WAY_SIGNED = 9,
     FV_WAY_PLAIN = 10
 };
+
+/* Why a packed section of an image is not opened: it has a fault; 8 opened sections are around it; or nothing is left
+ * of the number of bytes that may be opened. */
+enum { FV_REASON_FAULT = 1, FV_REASON_DEPTH = 2, FV_REASON_LIMIT = 3 };
 
 /* A GUID, by its bytes in a volume. */
 typedef struct fv_guid {
@@ -407,6 +480,37 @@ FV_ASSERT_(sizeof(fv_survey_row) == 56 && offsetof(fv_survey_row, offset) == 0 &
                offsetof(fv_survey_row, found) == 28 && offsetof(fv_survey_row, findings) == 32 &&
                offsetof(fv_survey_row, name) == 36 && offsetof(fv_survey_row, reserved) == 52,
            "the layout of fv_survey_row");
+
+/* A row of variable stores or of signature lists. A field that the part of the row does not have is 0. */
+typedef struct fv_variable_row {
+    uint64_t offset;          /* where the row begins, from the first byte of the input */
+    uint64_t length;          /* the number of its bytes */
+    uint64_t monotonic_count; /* MonotonicCount of an authenticated variable */
+    uint32_t part;            /* FV_PART_* */
+    uint32_t finding;         /* FV_FINDING_*, or 0 if the row has none */
+    uint32_t format;          /* FV_STORE_*, of a store */
+    uint32_t size;            /* Size of a store, or SignatureListSize of a list */
+    uint32_t state;           /* State of a variable or of a store */
+    uint32_t status;          /* FV_VARIABLE_*, of a variable */
+    uint32_t attributes;      /* Attributes of a variable */
+    uint32_t header_length;   /* the number of bytes of the header of a variable, 32 or 60; the name follows it */
+    uint32_t name_size;       /* NameSize of a variable; the data follow the name */
+    uint32_t data_size;       /* DataSize of a variable, or SignatureSize of a list */
+    uint32_t public_key;      /* PubKeyIndex of an authenticated variable */
+    uint32_t formatted;       /* Format of a store */
+    fv_guid guid;             /* VendorGuid of a variable, SignatureType of a list, or SignatureOwner of a signature */
+    uint8_t time_stamp[16];   /* TimeStamp of an authenticated variable, an EFI_TIME */
+} fv_variable_row;
+FV_ASSERT_(sizeof(fv_variable_row) == 104 && offsetof(fv_variable_row, offset) == 0 &&
+               offsetof(fv_variable_row, length) == 8 && offsetof(fv_variable_row, monotonic_count) == 16 &&
+               offsetof(fv_variable_row, part) == 24 && offsetof(fv_variable_row, finding) == 28 &&
+               offsetof(fv_variable_row, format) == 32 && offsetof(fv_variable_row, size) == 36 &&
+               offsetof(fv_variable_row, state) == 40 && offsetof(fv_variable_row, status) == 44 &&
+               offsetof(fv_variable_row, attributes) == 48 && offsetof(fv_variable_row, header_length) == 52 &&
+               offsetof(fv_variable_row, name_size) == 56 && offsetof(fv_variable_row, data_size) == 60 &&
+               offsetof(fv_variable_row, public_key) == 64 && offsetof(fv_variable_row, formatted) == 68 &&
+               offsetof(fv_variable_row, guid) == 72 && offsetof(fv_variable_row, time_stamp) == 88,
+           "the layout of fv_variable_row");
 
 /* The findings of fv_volume_compare. */
 typedef struct fv_comparison {
@@ -495,6 +599,51 @@ FV_ASSERT_(sizeof(fv_contents) == 16 && offsetof(fv_contents, length) == 0 && of
                offsetof(fv_contents, reserved) == 12,
            "the layout of fv_contents");
 
+/* A packed section of an image, at some level: a compression section or a GUID-defined section. */
+typedef struct fv_packed {
+    uint64_t source;          /* the number of the source that the section is in: 0 is the image */
+    uint64_t offset;          /* where the section begins, from the first byte of that source */
+    uint64_t length;          /* the number of its bytes, with its header */
+    uint64_t contents_length; /* the number of bytes of its contents; 0 if it is not opened */
+    fv_fault fault;           /* the fault, at its offset in the section, if reason is FV_REASON_FAULT; else zeros */
+    uint32_t depth;           /* the number of opened sections around it, 0 to 8 */
+    uint32_t way;             /* FV_WAY_*, the way that gave its contents; 0 if it is not opened */
+    uint32_t reason;          /* FV_REASON_*, why it is not opened; 0 if it is opened */
+    uint32_t reserved;        /* 0 */
+} fv_packed;
+FV_ASSERT_(sizeof(fv_packed) == 72 && offsetof(fv_packed, source) == 0 && offsetof(fv_packed, offset) == 8 &&
+               offsetof(fv_packed, length) == 16 && offsetof(fv_packed, contents_length) == 24 &&
+               offsetof(fv_packed, fault) == 32 && offsetof(fv_packed, depth) == 56 && offsetof(fv_packed, way) == 60 &&
+               offsetof(fv_packed, reason) == 64 && offsetof(fv_packed, reserved) == 68,
+           "the layout of fv_packed");
+
+/* The place of a part of an image, at some level. All fields are 0 if there is no part. */
+typedef struct fv_part_place {
+    uint64_t source;    /* the number of the source that the part is in: 0 is the image */
+    uint64_t offset;    /* where the part begins, from the first byte of that source */
+    uint64_t length;    /* the number of its bytes */
+    uint32_t has_place; /* 1 if there is a part, otherwise 0 */
+    uint32_t reserved;  /* 0 */
+} fv_part_place;
+FV_ASSERT_(sizeof(fv_part_place) == 32 && offsetof(fv_part_place, source) == 0 && offsetof(fv_part_place, offset) == 8 &&
+               offsetof(fv_part_place, length) == 16 && offsetof(fv_part_place, has_place) == 24 &&
+               offsetof(fv_part_place, reserved) == 28,
+           "the layout of fv_part_place");
+
+/* The findings of fv_image_same. */
+typedef struct fv_sameness {
+    fv_part_place first;  /* where the images first differ: the place in the first image */
+    fv_part_place second; /* the place in the second image */
+    uint32_t is_same;     /* 1 if the two images mean the same, otherwise 0 */
+    uint32_t reserved;    /* 0 */
+} fv_sameness;
+FV_ASSERT_(sizeof(fv_sameness) == 72 && offsetof(fv_sameness, first) == 0 && offsetof(fv_sameness, second) == 32 &&
+               offsetof(fv_sameness, is_same) == 64 && offsetof(fv_sameness, reserved) == 68,
+           "the layout of fv_sameness");
+
+/* The handle of an image that is open at every level: fv_image_open. Its fields are hidden. */
+typedef struct fv_image fv_image;
+
 /* Returns the version of the library that is loaded, as FV_VERSION_NUMBER has it. If its first number, the result
  * shifted right by 16, is not FV_VERSION_MAJOR, nothing else of this header is true of that library. */
 FV_API_ uint32_t fv_version_number(void);
@@ -548,6 +697,55 @@ FV_CHECKED_ fv_result fv_image_normalise(const void *image, size_t size, void *b
  * buffer then. */
 FV_CHECKED_ fv_result fv_image_survey(const void *image, size_t size, fv_survey_row *rows, size_t room, size_t *count,
                                       fv_fault *fault);
+
+/* Opens an image at every level: the packed sections in it, the packed sections in their contents, and so on. Any bytes
+ * are accepted. The image is source 0. Each further source is the contents of a packed section of an earlier source:
+ * first come the contents of the sections of source 0, in the order of the rows of its survey, then the contents of the
+ * sections of source 1, and so on. A packed section is a compression section or a GUID-defined section with a row in the
+ * survey of its source. It is not opened if 8 opened sections are around it, if nothing is left of the limit, or if
+ * fv_section_open finds a fault in it. A packed section that lies in an opened section of the same source is part of the
+ * contents of that section, so it is opened there, and is not listed.
+ * `limit` is the most bytes of the contents of all sections together. FV_CONTENTS_MAX is used in place of a larger one,
+ * as UINT64_MAX. An opened section counts for at least 65,536 bytes, and a section on which a decoder fails for
+ * 16,777,216. The contents of one section have at most FV_LENGTH_MAX bytes.
+ * Returns FV_OK, and sets *opened to a handle, which the calls after this one take. Returns FV_OUT_OF_MEMORY if memory
+ * runs out, and sets *opened to NULL. (FV_BAD_ARGUMENT leaves *opened as it was.)
+ * The image is not copied: until the handle is closed, it stays where it is, and nothing writes to it. The handle owns
+ * everything that the next calls lend. */
+FV_CHECKED_ fv_result fv_image_open(const void *image, size_t size, uint64_t limit, fv_image **opened, fv_fault *fault);
+
+/* Closes an image: frees the handle, and everything that it has lent. Does nothing if the handle is NULL. */
+FV_API_ void fv_image_close(fv_image *image);
+
+/* Returns the number of the sources of an image that is open: at least 1. */
+FV_API_ size_t fv_image_source_count(const fv_image *image);
+
+/* Returns the bytes of a source, and sets *size to their number. The bytes of source 0 are the caller's, and all others
+ * are lent: they must not be changed, and are there until the image is closed. Returns NULL, and sets *size to 0, if
+ * there is no source with this number, or if the source is an image of 0 bytes that was passed as NULL. */
+FV_API_ const void *fv_image_source_bytes(const fv_image *image, size_t source, size_t *size);
+
+/* Lends the rows of the survey of a source, and sets *count to their number: for source 0 the rows of fv_image_survey,
+ * for any other source the rows of fv_sections_survey. They are there until the image is closed. Returns NULL, and sets
+ * *count to 0, if there is no source with this number. */
+FV_API_ const fv_survey_row *fv_image_source_rows(const fv_image *image, size_t source, size_t *count);
+
+/* Lends the rows of all packed sections of an image, and sets *count to their number. First come the sections that are
+ * opened: row 0 is the section whose contents are source 1, row 1 the section whose contents are source 2, and so on.
+ * Then come the sections that are not opened, in the order of their sources and, in each source, of the rows of its
+ * survey. The rows are there until the image is closed. */
+FV_API_ const fv_packed *fv_image_packed(const fv_image *image, size_t *count);
+
+/* Compares what two images mean at every level: their parts, in order. Opens both as fv_image_open does, each within the
+ * limit. A part is a row of a survey that has a meaning: a header, data, a body of a section, or bytes outside of volumes.
+ * Places, pads, checksums and states do not count, nor do deleted files, superseded files and free bytes, nor how a
+ * section is packed that is opened. A packed section that is not opened counts with all its bytes. Any bytes are accepted.
+ * Returns FV_OK, and sets *found. If the images mean the same, is_same is 1, and neither place is there. If not, the
+ * places are those of the first parts that differ; if only one image has a part there, the other has no place. The source
+ * of a place is the source with this number of fv_image_open of the same image with the same limit. Returns
+ * FV_OUT_OF_MEMORY if memory runs out, and leaves *found unchanged. */
+FV_CHECKED_ fv_result fv_image_same(const void *first, size_t first_size, const void *second, size_t second_size,
+                                    uint64_t limit, fv_sameness *found, fv_fault *fault);
 
 /* Checks whether the volume is its own canonical image.
  * Returns FV_OK if the input is a volume, and sets *canonical to 1 if it is its own image, or to 0 if it is not or has
@@ -660,6 +858,12 @@ FV_CHECKED_ fv_result fv_section_way(const void *section, size_t size, fv_way *w
 FV_CHECKED_ fv_result fv_section_open(const void *section, size_t size, size_t limit, void *buffer, size_t buffer_size,
                                       fv_contents *found, fv_fault *fault);
 
+/* Surveys a stream of sections, such as the contents of a packed section: accounts for every byte of it. Any bytes are
+ * accepted, however damaged. The rows of depth 0 are sections, the filler between them, and lost bytes. All else is as
+ * for fv_image_survey. */
+FV_CHECKED_ fv_result fv_sections_survey(const void *sections, size_t size, fv_survey_row *rows, size_t room,
+                                         size_t *count, fv_fault *fault);
+
 /* Writes the whole tree of a stream of sections, which is what a compressed or GUID-defined section holds when it is
  * opened: sections one after another, each at a multiple of 4 from the first byte. Writes a row for each section of the
  * stream and, in the same way, for what is in groups and volumes among them. Each row is followed by the rows of the
@@ -691,6 +895,20 @@ FV_CHECKED_ fv_result fv_sections_tree_digests(const void *sections, size_t size
  * part. Leaves *length unchanged after a fault and after FV_NOT_FOUND. */
 FV_CHECKED_ fv_result fv_sections_extract(const void *sections, size_t size, uint32_t flags, size_t row, void *buffer,
                                           size_t buffer_size, size_t *length, fv_fault *fault);
+
+/* Reads bytes that may contain variable stores of EDK II (VariableFormat.h), such as the body of a volume whose file
+ * system is the variable store. Accounts for every byte: any bytes are accepted, and each byte is in exactly one row.
+ * Stores and working blocks are looked for at each byte outside of stores. What cannot be read has a row with its
+ * finding. Writes the rows in the order of their offsets, and sets *count to their number: at most the size.
+ * Returns FV_OK; or FV_BUFFER_TOO_SMALL if *count > room, and the buffer is full of the first rows then. */
+FV_CHECKED_ fv_result fv_variables_read(const void *bytes, size_t size, fv_variable_row *rows, size_t room,
+                                        size_t *count, fv_fault *fault);
+
+/* Reads bytes that should be signature lists (UEFI specification, section 32.4.1), such as the data of the variables PK,
+ * KEK, db and dbx. Accounts for every byte, and writes rows, as fv_variables_read does.
+ * Returns FV_OK; or FV_BUFFER_TOO_SMALL if *count > room, and the buffer is full of the first rows then. */
+FV_CHECKED_ fv_result fv_signatures_read(const void *bytes, size_t size, fv_variable_row *rows, size_t room,
+                                         size_t *count, fv_fault *fault);
 
 /* Evaluates the dependency expression with which the bytes begin, as if exactly the GUIDs of `installed` were
  * installed, and sets *value to FV_DEPEX_*. `phase` is FV_PHASE_*. The value does not depend on bytes after the END op.

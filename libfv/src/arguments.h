@@ -1,6 +1,6 @@
 /* SPDX-License-Identifier: BSD-2-Clause-Patent */
-/* The checks of the arguments of a call: rules 1 to 3 of fv.h. They read no byte of an argument. This file is not
- * proved: tests/libfv/arguments.c tries it. */
+/* The checks of the arguments of a call: rules 1 to 3 of fv.h, and what a proved call gets in place of NULL. They read no
+ * byte of an argument. This file is not proved: tests/libfv/arguments.c tries it. */
 #ifndef ARGUMENTS_H
 #define ARGUMENTS_H
 
@@ -56,6 +56,32 @@ INLINE bool are_bad(struct span a, struct span b, struct span c, struct span d, 
     if (is_bad(a) || is_bad(b) || is_bad(c) || is_bad(d) || is_bad(e)) return true;
     return collide(a, b) || collide(a, c) || collide(a, d) || collide(a, e) || collide(b, c) || collide(b, d) ||
            collide(b, e) || collide(c, d) || collide(c, e) || collide(d, e);
+}
+
+/* Returns FV_BAD_ARGUMENT from the call if one of these two to four arguments is bad, or `fault`. */
+#define CHECK(...) CHECK_FOUR(__VA_ARGS__, NONE, NONE, NONE)
+#define CHECK_FOUR(a, b, c, d, ...) \
+    if (!LIKELY(!are_bad(RESULT(fault), a, b, c, d))) return FV_BAD_ARGUMENT
+
+/* If the caller does not ask for the fault, makes the call again with a variable `unwanted`. No other path of the call
+ * has a variable on the stack, so the compiler can jump to the proved call (a tail call). */
+#define NEEDS_FAULT(...)                  \
+    if (!LIKELY(fault != NULL)) {         \
+        fv_fault unwanted;                \
+        return __VA_ARGS__;               \
+    }
+
+/* The target of an empty argument that is NULL. It is aligned for each type of fv.h, and neither read nor written. */
+static _Alignas(16) uint8_t nothing[16];
+
+INLINE const void *input(const void *pointer)
+{
+    return LIKELY(pointer != NULL) ? pointer : nothing;
+}
+
+INLINE void *buffer_of(void *pointer)
+{
+    return LIKELY(pointer != NULL) ? pointer : nothing;
 }
 
 #endif

@@ -11,35 +11,10 @@
 #include "arguments.h"
 
 fv_result fvp_volume_compare(const void *, size_t, const void *, size_t, char *, size_t, fv_comparison *, fv_fault *);
+fv_result fvp_image_same(const void *, size_t, const void *, size_t, uint64_t, fv_sameness *, fv_fault *);
 fv_result fvp_section_open(const void *, size_t, size_t, void *, size_t, fv_contents *, fv_fault *);
 fv_result fvp_depex_evaluate(const void *, size_t, uint32_t, const fv_guid *, size_t, uint32_t *, fv_fault *);
 fv_result fvp_hobs_read(const void *, size_t, fv_hob *, size_t, size_t *, size_t *, fv_fault *);
-
-/* Returns FV_BAD_ARGUMENT from the call if one of these two to four arguments is bad, or `fault`. */
-#define CHECK(...) CHECK_FOUR(__VA_ARGS__, NONE, NONE, NONE)
-#define CHECK_FOUR(a, b, c, d, ...) \
-    if (!LIKELY(!are_bad(RESULT(fault), a, b, c, d))) return FV_BAD_ARGUMENT
-
-/* If the caller does not ask for the fault, makes the call again with a variable `unwanted`. No other path of the call
- * has a variable on the stack, so the compiler can jump to the proved call (a tail call). */
-#define NEEDS_FAULT(...)                  \
-    if (!LIKELY(fault != NULL)) {         \
-        fv_fault unwanted;                \
-        return __VA_ARGS__;               \
-    }
-
-/* The target of an empty argument that is NULL. It is aligned for each type of fv.h, and neither read nor written. */
-static _Alignas(16) uint8_t nothing[16];
-
-INLINE const void *input(const void *pointer)
-{
-    return LIKELY(pointer != NULL) ? pointer : nothing;
-}
-
-INLINE void *buffer_of(void *pointer)
-{
-    return LIKELY(pointer != NULL) ? pointer : nothing;
-}
 
 /* Defines a call that writes one value about its input. */
 #define VALUE_CALL(name, type)                                                                                        \
@@ -110,6 +85,9 @@ ROWS_CALL(image_scan, fv_header)
 ROWS_CALL(image_check, fv_volume_check)
 ROWS_CALL(image_survey, fv_survey_row)
 ROWS_CALL(volume_cells, fv_cell)
+ROWS_CALL(sections_survey, fv_survey_row)
+ROWS_CALL(variables_read, fv_variable_row)
+ROWS_CALL(signatures_read, fv_variable_row)
 ROWS_CALL_WITH(volume_tree_with, volume_tree, fv_node)
 ROWS_CALL_WITH(volume_tree_digests_with, volume_tree_digests, fv_sha256)
 ROWS_CALL_WITH(sections_tree, sections_tree, fv_node)
@@ -141,6 +119,14 @@ fv_result fv_volume_compare(const void *first, size_t first_size, const void *se
     CHECK(BYTES(first, first_size), BYTES(second, second_size), BUFFER(text, text_size), RESULT(found));
     return fvp_volume_compare(input(first), first_size, input(second), second_size, buffer_of(text), text_size, found,
                               fault);
+}
+
+fv_result fv_image_same(const void *first, size_t first_size, const void *second, size_t second_size, uint64_t limit,
+                        fv_sameness *found, fv_fault *fault)
+{
+    NEEDS_FAULT(fv_image_same(first, first_size, second, second_size, limit, found, &unwanted))
+    CHECK(BYTES(first, first_size), BYTES(second, second_size), RESULT(found));
+    return fvp_image_same(input(first), first_size, input(second), second_size, limit, found, fault);
 }
 
 fv_result fv_section_open(const void *section, size_t size, size_t limit, void *buffer, size_t buffer_size,

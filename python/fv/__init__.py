@@ -7,6 +7,8 @@
     fv.image_check(image)           whether each volume of a flash image is its own canonical image, or its fault
     fv.image_normalise(image)       a flash image with each volume in it replaced by its canonical image
     fv.image_survey(image)          an account of every byte of an image, also of damaged volumes, with what is wrong
+    fv.image_open(image)            an image at every level: the same for the contents of its packed sections
+    fv.image_same(a, b)             whether two images mean the same at every level, and where they first differ
     fv.volume_is_canonical(volume)  whether a volume is its own canonical image
     fv.volume_normalise(volume)     the canonical image of a volume
     fv.volume_unfix(volume)         a copy of a volume in which no file is marked as fixed
@@ -18,8 +20,11 @@
     fv.volume_extract(volume, row)  the bytes of the part in that row of the tree
     fv.section_way(data)            how a packed section is opened, and how long its contents are said to be
     fv.section_open(data, limit)    the contents of a packed section: compressed, or defined by a GUID
+    fv.sections_survey(sections)    an account of every byte of a stream of sections
     fv.sections_tree(sections)      the tree of a stream of sections, which is what a compressed section holds
     fv.sections_tree_digests(sections), fv.sections_extract(sections, row)     the same for the rows of this tree
+    fv.variables_read(data)         an account of every byte of EDK II's variable stores: variables, and what is wrong
+    fv.signatures_read(data)        an account of every byte of signature lists, as in the variables PK, KEK, db and dbx
     fv.depex_evaluate(data, phase)  the truth value of a dependency expression
     fv.hobs_read(data)              the blocks of a hand-off list
     fv.result_text(code)            a sentence that explains a fault
@@ -56,7 +61,7 @@ The other modules are not proved. Each has a docstring:
     fv.opened    how sections are opened, and fv.limits: how much of an image is opened
     fv.names     the names of types and GUIDs
     fv.cli       what the commands share
-    fv.same, fv.unpack, fv.map, fv.sbom, fv.check, fv.text, fv.diff    the commands fv-same and so on
+    fv.same, fv.unpack, fv.map, fv.sbom, fv.check, fv.text, fv.diff, fv.vars    the commands fv-same and so on
 """
 
 from __future__ import annotations
@@ -67,13 +72,17 @@ from ._calls import (
     hobs_read,
     image_check,
     image_normalise,
+    image_same,
     image_scan,
     image_survey,
     section_open,
     section_way,
     sections_extract,
+    sections_survey,
     sections_tree,
     sections_tree_digests,
+    signatures_read,
+    variables_read,
     version,
     version_number,
     volume_cells,
@@ -87,16 +96,22 @@ from ._calls import (
     volume_unfix,
 )
 from ._errors import Error, Fault, FaultError
+from ._image import Image, image_open
 from ._library import Buffer, result_text
-from ._native import LENGTH_MAX, CellKind, Content, FaultCode, FileType, NodeKind, Phase, RowKind, SectionType, Way
-from ._types import Cell, Header, Hob, HobList, Node, Opened, Packed, SurveyRow, VolumeCheck
+from ._native import CONTENTS_MAX, LENGTH_MAX, CellKind, Content, FaultCode, FileType, Finding, NodeKind, PartKind
+from ._native import Phase, Reason, RowKind, SectionType, StoreFormat, VariableStatus, Way
+from ._types import Cell, Header, Hob, HobList, Node, Opened, Packed, PackedSection, PartPlace, Sameness, Source, SurveyRow
+from ._types import VariableRow
+from ._types import VolumeCheck
 
 __version__ = "2.1.0.dev0"
 __all__ = [
-    "LENGTH_MAX", "Buffer", "Cell", "CellKind", "Content", "Error", "Fault", "FaultCode", "FaultError", "FileType",
-    "Header", "Hob", "HobList", "Node", "NodeKind", "Opened", "Packed", "Phase", "RowKind", "SectionType", "SurveyRow",
-    "VolumeCheck", "Way", "depex_evaluate", "header_read", "hobs_read", "image_check", "image_normalise", "image_scan",
-    "image_survey", "result_text", "section_open", "section_way", "sections_extract", "sections_tree",
-    "sections_tree_digests", "version", "version_number", "volume_cells", "volume_compare", "volume_digest",
+    "CONTENTS_MAX", "LENGTH_MAX", "Buffer", "Cell", "CellKind", "Content", "Error", "Fault", "FaultCode", "FaultError",
+    "FileType", "Finding", "Header", "Hob", "HobList", "Image", "Node", "NodeKind", "Opened", "Packed", "PackedSection",
+    "PartKind", "PartPlace", "Phase", "Reason", "RowKind", "Sameness", "SectionType", "Source", "StoreFormat",
+    "SurveyRow", "VariableRow", "VariableStatus", "VolumeCheck", "Way", "depex_evaluate", "header_read", "hobs_read",
+    "image_check", "image_normalise", "image_open", "image_same", "image_scan", "image_survey", "result_text",
+    "section_open", "section_way", "sections_extract", "sections_survey", "sections_tree", "sections_tree_digests",
+    "signatures_read", "variables_read", "version", "version_number", "volume_cells", "volume_compare", "volume_digest",
     "volume_extract", "volume_is_canonical", "volume_normalise", "volume_tree", "volume_tree_digests", "volume_unfix",
 ]  # fmt: skip

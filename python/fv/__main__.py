@@ -7,6 +7,7 @@
     python3 -m fv check IMAGE [--json]      whether each volume is its own canonical image
     python3 -m fv digests IMAGE [--json]    the SHA-256 digest of each canonical image, and of its files and sections
     python3 -m fv survey IMAGE [--json]     an account of every byte of the image, also in and around damaged volumes
+    python3 -m fv open IMAGE [--json]       the same for the image and for the contents of its packed sections
 
 Each line begins with the offset of its volume in the image. All other offsets count from the first byte of that volume.
 Headers, nodes and cells have the fields that they have in `fv`. A field that a part does not have is null in JSON, and
@@ -19,6 +20,10 @@ first bytes.
 
 `survey` rejects nothing. Its lines are the rows of `fv.image_survey`, whose offsets count from the first byte of the
 image. As text, a line is indented by its depth, and shows `found` and the findings only if there are any.
+
+`open` rejects nothing either. Its lines are the rows of each source of `fv.image_open`, after the number of the source:
+source 0 is the image, and each further source is the contents of a packed section. Then comes a line for each packed
+section that is not opened, with the reason, `closed`. If the reason is a fault, `text` explains it.
 
 The process takes at most 4 GiB of memory. `tree` and `digests` need up to 50 bytes for each byte of a volume with only
 empty sections.
@@ -70,8 +75,8 @@ def digests(volume: memoryview) -> Iterator[Line]:
             yield {"row": row, **part, "sha256": digest.hex()}
 
 
-# The command that is about the whole image.
-SURVEY = "survey"
+# The commands that are about the whole image.
+SURVEY, OPEN = "survey", "open"
 # The other commands, by their names on the command line, and the lines that each has for a volume.
 COMMANDS: dict[str, Callable[[memoryview], Iterable[Line]]] = {
     "scan": lambda volume: [{name: it for name, it in fields(fv.header_read(volume)).items() if name != "offset"}],
@@ -82,10 +87,23 @@ COMMANDS: dict[str, Callable[[memoryview], Iterable[Line]]] = {
 }
 
 
+def opened(image: memoryview) -> Iterator[Line]:
+    """Yields a line for each row of each source of an image, and then for each packed section that is not opened."""
+    with fv.image_open(image) as found:
+        for source in found.sources:
+            yield from ({"source": source.number, **fields(row)} for row in source.rows)
+        for it in found.closed:
+            why = {"closed": shown(it.reason), "text": it.fault.text if it.fault else None}
+            yield {"source": it.source, "offset": it.offset, "length": it.length, "depth": it.depth, **why}
+
+
 def lines(image: memoryview, name: str) -> Iterator[Line]:
     """Yields the lines of a command. A rejected volume has one line, with its fault."""
     if name == SURVEY:
         yield from map(fields, fv.image_survey(image))
+        return
+    if name == OPEN:
+        yield from opened(image)
         return
     for at, length in [(it.offset, it.length) for it in fv.image_scan(image)] or [(0, len(image))]:
         try:
@@ -99,13 +117,13 @@ def lines(image: memoryview, name: str) -> Iterator[Line]:
 
 def text_of(line: Line) -> str:
     """Returns a line as text: each field with its name. For a node of a tree the offset of its volume comes first, then
-    the indentation, then the kind of the node and its number, and then its fields. For a row of a survey the
-    indentation and the kind come first."""
+    the indentation, then the kind of the node and its number, and then its fields. For a row of a survey the number of
+    its source, the indentation and the kind come first."""
     if "findings" in line and "depth" in line:
         notes = {"found": True if line["found"] else None, "findings": ",".join(line["findings"]) or None}
         place = {name: line[name] for name in ("offset", "length", "efi_type", "name")}
-        indent: str = "  " * line["depth"]
-        return f"{indent}{line['kind']} {text_of({**place, **notes})}"
+        start: str = (f"source {line['source']} " if "source" in line else "") + "  " * line["depth"]
+        return f"{start}{line['kind']} {text_of({**place, **notes})}"
     if "row" in line and "depth" in line:
         head: str = f"volume {line['volume']} " + "  " * line["depth"]
         rest = {name: it for name, it in line.items() if name not in ("volume", *PLACE)}
@@ -115,7 +133,7 @@ def text_of(line: Line) -> str:
 
 
 JSON = cli.flag("--json", "write each line as a JSON object")
-parser = cli.of(NAME, __doc__, cli.argument("command", choices=[*COMMANDS, SURVEY]), cli.IMAGE, JSON)
+parser = cli.of(NAME, __doc__, cli.argument("command", choices=[*COMMANDS, SURVEY, OPEN]), cli.IMAGE, JSON)
 
 
 @cli.command(parser)

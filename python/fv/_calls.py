@@ -13,8 +13,9 @@ from . import _native as native
 from ._errors import FAULT_SIZE, error_of
 from ._library import Buffer, Held, lib, new_bytes, result_text, unchanging
 from ._native import Phase
-from ._types import WAYS, Cell, Header, Hob, HobList, Node, Opened, Packed, SurveyRow, VolumeCheck
-from ._types import Cells, Checks, Digests, Headers, Hobs, Nodes, Rows, SurveyRows
+from ._types import WAYS, Cell, Header, Hob, HobList, Node, Opened, Packed, PartPlace, Sameness, SurveyRow, VariableRow
+from ._types import VolumeCheck
+from ._types import Cells, Checks, Digests, Headers, Hobs, Nodes, Rows, SurveyRows, VariableRows
 
 # The first buffer for rows has room for a row for each 8 bytes of the input (a section with a body takes at least 8
 # bytes), but for at most 65,536 rows. Memory that a call does not write to costs little.
@@ -26,9 +27,10 @@ FIRST_CONTENTS, EXPANSION = 1 << 20, 16
 # A view of fewer bytes is copied, because this takes less time than to get its address.
 LEAST_HELD = 4096
 # A call writes its results to new bytes objects, which take less time to make than objects of ctypes. These are the
-# results that are not rows: a number of 64 bits, a number of 32 bits, a comparison, and the results for packed
+# results that are not rows: a number of 64 bits, a number of 32 bits, two comparisons, and the results for packed
 # sections.
 _SIZE, _U32, _COMPARISON = struct.Struct("=Q"), struct.Struct("=I"), struct.Struct(native.COMPARISON_FORMAT)
+_SAMENESS = struct.Struct(native.SAMENESS_FORMAT)
 _WAY, _CONTENTS = struct.Struct(native.WAY_FORMAT), struct.Struct(native.CONTENTS_FORMAT)
 _TRUE = _U32.pack(1)
 _TRUTHS = {
@@ -122,6 +124,28 @@ def image_survey(image: Buffer, *, copy: bool = True) -> Sequence[SurveyRow]:
     return _over(image, copy, _rows, lib.fv_image_survey, SurveyRows)
 
 
+def contents_limit(limit: SupportsIndex | None) -> int:
+    """Returns the most bytes of all contents together that a call may open: CONTENTS_MAX if there is no limit."""
+    most = native.CONTENTS_MAX if limit is None else operator.index(limit)
+    if most < 0:
+        raise ValueError("the limit is negative")
+    return min(most, native.CONTENTS_MAX)
+
+
+def image_same(
+    first: Buffer, second: Buffer, limit: SupportsIndex | None = None, *, copy: bool = True
+) -> Sameness:
+    """Returns whether two images mean the same at every level, and otherwise where they first differ. Opens both as
+    image_open does, each within the limit. Any bytes are accepted. Places, pads, checksums, deleted and superseded
+    files and free bytes do not count, nor does how a section is packed that is opened. A packed section that is not
+    opened counts with all its bytes."""
+    most = contents_limit(limit)
+    found = _found(_SAMENESS.size, second, copy, _compare, lib.fv_image_same, first, copy, most)
+    *places, is_same = _SAMENESS.unpack(found)
+    one, other = (PartPlace(*it[:3]) if it[3] else None for it in (places[:4], places[4:]))
+    return Sameness(is_same == 1, one, other)
+
+
 def image_normalise(image: Buffer, *, copy: bool = True) -> bytes:
     """Returns a flash image with each volume that image_scan finds in it replaced by its canonical image."""
     return _over(image, copy, _image, lib.fv_image_normalise)
@@ -150,10 +174,9 @@ def volume_digest(volume: Buffer, *, copy: bool = True) -> bytes:
     return _found(Digests.layout.size, volume, copy, lib.fv_volume_digest)
 
 
-def _compare(address: Any, size: int, first: Buffer, copy: bool, *rest: Any) -> int:
-    """Returns the result of a comparison of a first volume with some data."""
-    result: int = _over(first, copy, lib.fv_volume_compare, address, size, *rest)
-    return result
+def _compare(address: Any, size: int, call: Callable[..., int], first: Buffer, copy: bool, *rest: Any) -> int:
+    """Returns the result of a call that compares a first input with some data."""
+    return _over(first, copy, call, address, size, *rest)
 
 
 def volume_compare(first: Buffer, second: Buffer, *, copy: bool = True) -> str | None:
@@ -161,7 +184,7 @@ def volume_compare(first: Buffer, second: Buffer, *, copy: bool = True) -> str |
     difference, and its kind. The `input` of a fault says which volume is rejected. The second volume is read only if
     the first one is accepted."""
     text = bytes(native.DIFFERENCE_SIZE)
-    found = _found(_COMPARISON.size, second, copy, _compare, first, copy, text, len(text))
+    found = _found(_COMPARISON.size, second, copy, _compare, lib.fv_volume_compare, first, copy, text, len(text))
     text_length, same = _COMPARISON.unpack(found)
     return None if same else text[:text_length].decode()
 
@@ -248,6 +271,13 @@ def section_open(section: Buffer, limit: SupportsIndex = native.LENGTH_MAX, *, c
     return _over(section, copy, _opened, min(most, 2**63 - 1))
 
 
+def sections_survey(sections: Buffer, *, copy: bool = True) -> Sequence[SurveyRow]:
+    """Surveys a stream of sections, such as the contents of a packed section: returns the rows of the survey, in
+    preorder, which account for every byte. Any bytes are accepted. The rows of depth 0 are sections, the filler between
+    them, and lost bytes. All else is as for image_survey."""
+    return _over(sections, copy, _rows, lib.fv_sections_survey, SurveyRows)
+
+
 def sections_tree(sections: Buffer, *, without_marks: bool = False, copy: bool = True) -> Sequence[Node]:
     """Returns the whole tree of a stream of sections, in preorder: its sections and, in the same way, what is in groups
     and volumes among them. A stream is what a compressed or GUID-defined section holds when it is opened. Its sections
@@ -272,6 +302,20 @@ def sections_extract(
     sections_tree(sections). A volume's row gives its canonical image, a file's row its data in that image, and a
     section's row its body. `without_marks` is as in volume_extract. Raises what volume_extract raises."""
     return _over(sections, copy, _part, _with(lib.fv_sections_extract, without_marks), _number(row))
+
+
+def variables_read(data: Buffer, *, copy: bool = True) -> Sequence[VariableRow]:
+    """Reads bytes that may contain variable stores of EDK II, such as the body of a volume whose file system is the
+    variable store. Returns rows in the order of their offsets, which account for every byte. No bytes are rejected:
+    bytes that cannot be read have a row with a finding. There is at most one row for each byte, and a row takes 104
+    bytes of memory."""
+    return _over(data, copy, _rows, lib.fv_variables_read, VariableRows)
+
+
+def signatures_read(data: Buffer, *, copy: bool = True) -> Sequence[VariableRow]:
+    """Reads bytes that should be signature lists, such as the data of the variables PK, KEK, db and dbx. Returns rows
+    in the order of their offsets, which account for every byte, as `variables_read` does."""
+    return _over(data, copy, _rows, lib.fv_signatures_read, VariableRows)
 
 
 def depex_evaluate(

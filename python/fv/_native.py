@@ -15,6 +15,7 @@ VERSION_MINOR = 1
 VERSION_PATCH = 0
 VERSION_NUMBER = 0x020100
 LENGTH_MAX = 268435456
+CONTENTS_MAX = 1073741824
 DIFFERENCE_SIZE = 553
 GUID_TEXT_SIZE = 37
 NO_PARENT = 2**64 - 1
@@ -48,12 +49,16 @@ FAULT_FORMAT = "=QIII4x"
 HEADER_FORMAT = "=QQQIIII16s8x"
 VOLUME_CHECK_FORMAT = "=QQQIII4xI4x"
 SURVEY_ROW_FORMAT = "=QQIIIII16s4x"
+VARIABLE_ROW_FORMAT = "=QQQIIIIIIIIIIII16s16s"
 COMPARISON_FORMAT = "=QI4x"
 CELL_FORMAT = "=QQIIII16s8x"
 NODE_FORMAT = "=QQQQIIIIII16sI12x"
 HOB_FORMAT = "=QQII8x"
 WAY_FORMAT = "=QQI4x"
 CONTENTS_FORMAT = "=QI4x"
+PACKED_FORMAT = "=QQQQQIII4xIII4x"
+PART_PLACE_FORMAT = "=QQQI4x"
+SAMENESS_FORMAT = "=QQQI4xQQQI4xI4x"
 
 _pointer, _size, _u32, _text = c.c_void_p, c.c_void_p, c.c_uint32, c.c_char_p
 # The type of the result and the types of the parameters of each call. A pointer is an address or bytes. Two things
@@ -68,6 +73,13 @@ CALLS: dict[str, tuple[Any, list[Any]]] = {
     "fv_image_check": (_u32, [_pointer, _size, _pointer, _size]),
     "fv_image_normalise": (_u32, [_pointer, _size, _pointer, _size]),
     "fv_image_survey": (_u32, [_pointer, _size, _pointer, _size]),
+    "fv_image_open": (_u32, [_pointer, _size, _size, _pointer]),
+    "fv_image_close": (None, [_pointer]),
+    "fv_image_source_count": (_size, [_pointer]),
+    "fv_image_source_bytes": (_pointer, [_pointer, _size]),
+    "fv_image_source_rows": (_pointer, [_pointer, _size]),
+    "fv_image_packed": (_pointer, [_pointer]),
+    "fv_image_same": (_u32, [_pointer, _size, _pointer, _size, _size]),
     "fv_volume_is_canonical": (_u32, [_pointer, _size]),
     "fv_volume_normalise": (_u32, [_pointer, _size, _pointer, _size]),
     "fv_volume_unfix": (_u32, [_pointer, _size, _pointer, _size]),
@@ -82,9 +94,12 @@ CALLS: dict[str, tuple[Any, list[Any]]] = {
     "fv_volume_extract_with": (_u32, [_pointer, _size, _u32, _size, _pointer, _size]),
     "fv_section_way": (_u32, [_pointer, _size]),
     "fv_section_open": (_u32, [_pointer, _size, _size, _pointer, _size]),
+    "fv_sections_survey": (_u32, [_pointer, _size, _pointer, _size]),
     "fv_sections_tree": (_u32, [_pointer, _size, _u32, _pointer, _size]),
     "fv_sections_tree_digests": (_u32, [_pointer, _size, _u32, _pointer, _size]),
     "fv_sections_extract": (_u32, [_pointer, _size, _u32, _size, _pointer, _size]),
+    "fv_variables_read": (_u32, [_pointer, _size, _pointer, _size]),
+    "fv_signatures_read": (_u32, [_pointer, _size, _pointer, _size]),
     "fv_depex_evaluate": (_u32, [_pointer, _size, _u32, _pointer, _size]),
     "fv_hobs_read": (_u32, [_pointer, _size, _pointer, _size]),
 }
@@ -245,6 +260,64 @@ class SectionType(enum.IntEnum):
     MM_DEPEX = 0x1C
 
 
+class PartKind(enum.IntEnum):
+    """What a row of variable stores or of signature lists is about: the header of a variable store; a variable, with
+    its header, its name and its data; the header of a variable that was never finished; the bytes from the end of a
+    variable to the next multiple of 4; erased bytes, which are 0xFF; the working block of the fault tolerant write
+    driver, with its queue; the header of a signature list; a signature, with its owner; and bytes that cannot be
+    read."""
+
+    STORE_HEADER = 1
+    VARIABLE = 2
+    UNFINISHED = 3
+    FILLER = 4
+    FREE = 5
+    WORKING_BLOCK = 6
+    LIST_HEADER = 7
+    SIGNATURE = 8
+    UNREAD = 9
+
+
+class Finding(enum.IntEnum):
+    """The finding of a row of variable stores or of signature lists. Finding.STORE_SIZE: Size of a store is not
+    possible, so the store is read up to the end of the bytes. Finding.STORE_STATE: EDK II does not use the store,
+    because Format is not 0x5A or State is not 0xFE. Finding.START_ID: the rest of a store does not begin with StartId,
+    and is not erased. Finding.VARIABLE_SIZE: the rest of a store has no room for the variable with which it begins.
+    Finding.QUEUE_SIZE: WriteQueueSize of a working block is not possible. Finding.NO_STORE: the bytes are outside of
+    stores, and are not erased. Finding.LIST_SIZE: the sizes of a signature list are not possible, so no further list is
+    read. Finding.SIGNATURE_SIZE: the rest of a signature list has no room for a signature."""
+
+    STORE_SIZE = 1
+    STORE_STATE = 2
+    START_ID = 3
+    VARIABLE_SIZE = 4
+    QUEUE_SIZE = 5
+    NO_STORE = 6
+    LIST_SIZE = 7
+    SIGNATURE_SIZE = 8
+
+
+class StoreFormat(enum.IntEnum):
+    """The formats of the variables of a store: VARIABLE_HEADER, of 32 bytes, or AUTHENTICATED_VARIABLE_HEADER, of
+    60."""
+
+    PLAIN = 1
+    AUTHENTICATED = 2
+
+
+class VariableStatus(enum.IntEnum):
+    """What State of a variable says. VariableStatus.ADDED (0x3F): the variable is there. VariableStatus.REPLACED
+    (0x3E): it is about to be replaced, and is there as long as no other variable with its name and vendor is added.
+    VariableStatus.DELETED (0x3D or 0x3C): it was deleted. VariableStatus.HEADER_ONLY (0x7F): only its header was
+    written in full. VariableStatus.OTHER: any other byte."""
+
+    ADDED = 1
+    REPLACED = 2
+    DELETED = 3
+    HEADER_ONLY = 4
+    OTHER = 5
+
+
 class Phase(enum.IntEnum):
     """The phase in which a dependency expression is evaluated. Phase.DXE is for DXE and for MM."""
 
@@ -274,3 +347,12 @@ class Way(enum.IntEnum):
     CRC32 = 8
     SIGNED = 9
     PLAIN = 10
+
+
+class Reason(enum.IntEnum):
+    """Why a packed section of an image is not opened: it has a fault; 8 opened sections are around it; or nothing is
+    left of the number of bytes that may be opened."""
+
+    FAULT = 1
+    DEPTH = 2
+    LIMIT = 3

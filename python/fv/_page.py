@@ -14,9 +14,9 @@ from itertools import chain, pairwise
 from pathlib import Path
 from typing import NamedTuple, TypeVar
 
+from ._model import REMAINS, File, Part, Section, Unread, Volume, finding_text, leaves
 from ._native import CellKind
 from ._sheet import Change, Drawing, Lack, Row, Sheet, changes, meaning_of
-from .images import REMAINS, File, Part, Section, Unread, Volume, leaves
 from .shown import printable
 
 MOST_VOLUMES = 250  # volumes of a page
@@ -31,6 +31,7 @@ MOST_SIGNS = 24_000_000  # characters of a page. When it has them, the rest of e
 Item = TypeVar("Item")
 Box = tuple[float, float, float, float]
 
+STYLE = Path(__file__).with_name("page.css").read_text(encoding="utf-8").partition("*/")[2]  # after the licence
 NO_VOLUME = "no volume"
 # The colours by the types of files, from 0x01 on.
 COLORS = dict(enumerate("raw free-form core core core pei dxe pei app mm image mm core mm core".split(), 0x01))
@@ -494,11 +495,14 @@ def opened(section: Section) -> str:
 
 
 def contents(file: File) -> str:
-    """Returns the first sections of a file, and why some of them are not opened or may be opened wrongly."""
+    """Returns the first sections of a file, the rules that it breaks, and why sections are not opened or may be opened
+    wrongly."""
     parts = [f"{it.type_name} {amount(it.length)}" for it in file.sections[:MOST_SECTIONS]]
     parts += ["…"] * (len(file.sections) > MOST_SECTIONS)
     found = list(leaves(file.sections))
-    notes = [f"(not opened: {it.type_name}: {it.closed})" for it in found if it.closed]
+    broken = [file.broken, *(it.broken for it in found)]
+    notes = [f"({finding_text(it)})" for it in broken if it]
+    notes += [f"(not opened: {it.type_name}: {it.closed})" for it in found if it.closed]
     notes += [f"({it.type_name}: {doubt})" for it in found if it.opened for doubt in it.opened.doubts]
     return ", ".join(parts + notes[:MOST_NOTES])
 
@@ -522,77 +526,3 @@ def draw(drawing: Drawing, against: Drawing | None) -> str:
     for sheet in drawing.sheets:
         page.volume(sheet)
     return page.whole(drawing, against or drawing)
-
-
-STYLE = """
-:root{color-scheme:light dark;--page:#fbfbfa;--card:#fff;--text:#1d2126;--dim:#5d6670;--line:#dfe2e5;--link:#2b5f92;
---free:#eceeef;--pad:#c9cdd1;--header:#8d959d;--none:#f0dfb8;--hatch:#dcc48d;--good:#2f7047;--fair:#8a5c00;
---bad:#a63a3a;--edge:#ffb000;--shade:#0004}
-@media(prefers-color-scheme:dark){:root{--page:#15181b;--card:#1c2024;--text:#e4e7ea;--dim:#9aa4ad;--line:#343a40;
---link:#86b6e6;--free:#2a2f34;--pad:#4a5158;--header:#7b848c;--none:#40361f;--hatch:#5a4c2c;--good:#6fc08c;
---fair:#e0b053;--bad:#ee8585;--edge:#ffc64d;--shade:#fff3}
-}
-*{box-sizing:border-box}
-body{margin:0 auto;max-width:1180px;padding:24px 28px 40px;background:var(--page);color:var(--text);
-font:15px/1.5 system-ui,"Segoe UI","Noto Sans","DejaVu Sans",sans-serif}
-h1{font-size:25px;line-height:1.2;margin:0 0 4px}h2{font-size:18px;margin:0 0 2px}p{margin:2px 0 6px}
-h1,h2,p{overflow-wrap:anywhere}
-header{margin-bottom:14px}header p,section>p{color:var(--dim)}.dim{color:var(--dim)}
-.mono{font-family:ui-monospace,"DejaVu Sans Mono",monospace;font-size:.87em}
-section{background:var(--card);border:1px solid var(--line);border-radius:8px;padding:14px 18px 16px;margin:14px 0}
-section section{margin:16px 0 0;border-left:4px solid var(--header);border-radius:0 8px 8px 0}
-.label{font-size:13px;font-weight:600;margin:10px 0 3px;color:var(--text)!important}
-.strip{position:relative;height:26px;background:var(--card);border-radius:3px;overflow:hidden;outline:1px solid
-var(--line)}
-.strip>*{position:absolute;top:0;bottom:0;overflow:hidden;white-space:nowrap;text-overflow:ellipsis;padding-left:7px;
-color:#fff;font-style:normal;font-size:12.5px;line-height:26px} .strip>:empty{padding:0}
-.strip a{text-decoration:none}.strip .edge{box-shadow:inset -1px 0 var(--card)}
-.strip .k-free,.strip .k-pad,.strip .k-none,.strip .k-unread{color:var(--text)} .strip .k-header{color:#15181b}
-.ends{display:flex;justify-content:space-between;gap:12px;color:var(--dim);
-font:12px/1.5 ui-monospace,"DejaVu Sans Mono",monospace}
-.areas{position:relative}
-.areas a{position:absolute;padding:0 1.5px 1.5px 0;overflow:hidden;container-type:size;text-decoration:none}
-a:focus-visible{outline:3px solid var(--edge);outline-offset:-3px;z-index:1}tr:target td{background:var(--free)}
-.areas span{display:block;height:100%;overflow:hidden;padding:2px 2px 0 5px;color:#fff;font-size:12.5px;
-line-height:15px}
-.areas b{display:-webkit-box;-webkit-box-orient:vertical;-webkit-line-clamp:1;overflow:hidden;text-overflow:ellipsis;
-font-weight:600}.areas small{display:block;font-size:11.5px;white-space:nowrap}
-@container(min-height:52px){.areas b{-webkit-line-clamp:2}}
-@container(min-height:68px){.areas b{-webkit-line-clamp:3}}
-@container(max-width:60px){.areas span{padding-left:3px}.areas b{font-size:11px}}
-@container(max-width:66px) or (max-height:36px){.areas small{display:none}}
-@container(max-width:42px) or (max-height:20px){.areas b{display:none}.areas span{padding:0}}
-.wide{overflow-x:auto;margin-top:6px;
-background:linear-gradient(90deg,var(--card) 50%,transparent) 0/40px 100% local,
-linear-gradient(270deg,var(--card) 50%,transparent) 100%/40px 100% local,
-linear-gradient(90deg,var(--shade),transparent) 0/12px 100% scroll,
-linear-gradient(270deg,var(--shade),transparent) 100%/12px 100% scroll;background-repeat:no-repeat}
-.wide+p{margin-top:8px}
-table{border-collapse:collapse;width:100%;font-size:13.5px}
-th,td{padding:3px 10px 3px 0;vertical-align:baseline;border-bottom:1px solid var(--line);white-space:nowrap}
-th{text-align:left;color:var(--dim);font-weight:600} th:last-child,td:last-child{padding-right:0}
-td.name,td.long{white-space:normal;overflow-wrap:anywhere;min-width:150px} td.long{min-width:200px}
-.n{text-align:right;font-variant-numeric:tabular-nums}
-details{margin-top:8px}summary{cursor:pointer;color:var(--link);font-size:14px}a{color:var(--link)}
-.meter{display:inline-block;width:90px;height:9px;background:var(--free);border-radius:2px;vertical-align:1px}
-.meter i{display:block;height:100%;background:var(--link);border-radius:2px}
-.bar{display:inline-block;height:9px;border-radius:1px}
-.chip{display:inline-block;border:1px solid currentColor;border-radius:9px;padding:0 8px;font-size:12px;font-weight:600;
-line-height:17px;vertical-align:1px;margin-right:6px;white-space:nowrap} h2 .chip{white-space:normal}
-.chip.good,.chip.came{color:var(--good)} .chip.fair,.chip.changed{color:var(--fair)}
-.chip.bad,.chip.went{color:var(--bad)}
-.legend{font-size:13px;color:var(--dim)}.legend span{display:inline-block;margin-right:16px}
-.legend i{display:inline-block;width:12px;height:12px;margin-right:5px;vertical-align:-1px;border-radius:2px}
-.k-core{background:#98404c}.k-pei{background:#8d6114}.k-dxe{background:#35618f}.k-mm{background:#6a5598}
-.k-app{background:#1c7069}.k-image{background:#56687c}.k-free-form{background:#537338}.k-raw{background:#75695c}
-.k-other{background:#6b6b6b}.k-bad{background:#a63a3a}.k-header{background:var(--header)}
-.k-pad{background:var(--pad)}.k-free{background:var(--free)}
-.k-deleted{background:#33373b;outline:1px solid var(--dim);outline-offset:-1px}
-.k-none{background:repeating-linear-gradient(135deg,var(--none) 0 6px,var(--hatch) 6px 8px)}
-.k-unread{background:var(--card);outline:1px dashed var(--dim);outline-offset:-1px}
-.legend .k-free{outline:1px solid var(--line);outline-offset:-1px}
-.legend i.mark{width:22px;border:2px solid var(--edge)}.legend i.changed{border-style:dashed}
-.areas .came{border:3px solid var(--edge)}.areas .changed{border:2px dashed var(--edge)}
-@media(max-width:700px){body{padding:14px 12px 24px}section{padding:10px 10px 12px}section section{padding-left:8px}
-td.long{min-width:520px}}
-"""

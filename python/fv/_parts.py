@@ -11,10 +11,9 @@ from collections.abc import Iterable, Iterator
 from dataclasses import dataclass, field, replace
 
 from . import cli
-from .images import OUTSIDE, Content, File, Opened, Part, Section, Unread, Volume
+from ._model import Content, File, Holder, Opened, Part, Section, Unread, Volume, finding_text
 from .limits import Full
 from .names import DEPEX, PE32, TE, Names
-from .opened import is_uniform
 from .shown import file_name
 
 IMAGE = "image"  # `within` of a part that is not in an opened section: its offset counts from the image's start
@@ -61,6 +60,11 @@ class Entry:
         return self.path.endswith("/")
 
     @property
+    def findings(self) -> str:
+        """Returns the numbers of the rules that the part breaks."""
+        return ",".join(str(it.value) for it in self.part.broken)
+
+    @property
     def digest(self) -> str:
         """Returns the SHA-256 digest of the bytes of the part. Raises Full if the digests of the image cover too many
         bytes."""
@@ -93,12 +97,16 @@ class _Walk:
     def content(self, content: Content, path: str, place: Place) -> Iterator[Entry]:
         """Yields the parts of an image, or of an opened section."""
         yield from self._sections(content.sections, path, place)
-        for volume in content.volumes:
+        yield from self._rest(content, path, place)
+
+    def _rest(self, holder: Holder, path: str, place: Place) -> Iterator[Entry]:
+        """Yields the volumes that were found in the bytes of a part, and the bytes in it that are not read."""
+        for volume in holder.volumes:
             yield from self._volume(volume, place)
-        yield from _others(content, path, place.within)
+        yield from _unread(holder.unread, path, place.within)
 
     def _volume(self, volume: Volume, place: Place) -> Iterator[Entry]:
-        """Yields a volume, its files, and the bytes in it that are not read."""
+        """Yields a volume, its files, and the rest of it. A volume that breaks rules has its first fault."""
         name = self._names.of(volume.guid)
         path = f"{self._volumes:02}-{file_name(name or place.holder or str(volume.guid or 'volume'))}"
         self._volumes += 1
@@ -106,25 +114,25 @@ class _Walk:
         entry = Entry(f"{path}/", volume, place.within, "volume", volume.type_name, volume.guid, name)
         if volume.fault:
             note = f"{volume.fault}: {volume.fault.text}"
-            line = f"{about}: {note}"
-            yield replace(entry, path=f"{path}/rejected.bin", note=note, line=line, status=cli.REJECTED)
+            yield replace(entry, note=note, line=f"{about}: {note}", status=cli.REJECTED)
         else:
             fixed = f", {len(volume.fixed)} of them fixed" if volume.fixed else ""
             yield replace(entry, line=f"{about}: {len(volume.files)} files{fixed}")
         for number, file in enumerate(volume.files):
             yield from self._file(file, f"{path}/{number:03}", place.within)
-        yield from _unread(volume.unread, f"{path}/", place.within)
+        yield from self._rest(volume, f"{path}/", place)
 
     def _file(self, file: File, path: str, within: str) -> Iterator[Entry]:
         """Yields a file, and its sections."""
         name = file.name or self._names.of(file.guid)
         path = f"{path}-{file_name(name or str(file.guid))}/"
-        note = "fixed" if file.is_fixed else ""
-        yield Entry(path, file, within, "file", file.type_name, file.guid, name, note)
+        notes = ["fixed"] * file.is_fixed + [finding_text(file.broken)] * bool(file.broken)
+        yield Entry(path, file, within, "file", file.type_name, file.guid, name, "; ".join(notes))
         if file.sections:
             yield from self._sections(file.sections, path, Place(within, name))
         elif file.length:
             yield Entry(f"{path}body.bin", file, within, "data", file.type_name)
+        yield from self._rest(file, path, Place(within, name))
 
     def _sections(self, sections: Iterable[Section], path: str, place: Place) -> Iterator[Entry]:
         """Yields sections, and their contents, in a folder."""
@@ -140,10 +148,12 @@ class _Walk:
                 entry = Entry(inner, section, place.within, "section", section.type_name)
                 yield _doubted(entry, "read", [section.closed] if section.closed else [])
                 yield from self._sections(section.sections, inner, place)
+                yield from self._rest(section, inner, place)
             else:
                 ending = "efi" if section.kind in (PE32, TE) else "bin"
                 name = _numbered(f"{file_words(section.type_name)}.{ending}", counts)
                 yield self._leaf(Entry(f"{path}{name}", section, place.within, "section", section.type_name), section)
+                yield from self._rest(section, path, place)
 
     def _opened(self, section: Section, content: Opened, path: str, place: Place) -> Iterator[Entry]:
         """Yields an opened section, and its contents."""
@@ -157,7 +167,8 @@ class _Walk:
         if section.closed:
             note = f"not opened: {section.closed}"
             return _lacking(entry, note, note)
-        return replace(entry, note=self._names.depex(section.body)) if section.kind in DEPEX else entry
+        note = self._names.depex(section.body) if section.kind in DEPEX else finding_text(section.broken)
+        return replace(entry, note=note)
 
 
 def _doubted(entry: Entry, done: str, doubts: list[str]) -> Entry:
@@ -174,33 +185,14 @@ def _lacking(entry: Entry, note: str, what: str) -> Entry:
     return replace(entry, note=note, line=f"{entry.path}: {what}", status=cli.OTHER)
 
 
-def _others(content: Content, folder: str, within: str) -> Iterator[Entry]:
-    """Yields the bytes that are in no volume and in no section, unless all are equal, and then the rest of what was not
-    read."""
-    gaps = {(it.offset, it.length): it for it in content.unread if it.is_gap}
-    for part in content.others:
-        if not is_uniform(part.data, part.offset, part.end):
-            otherwise = Unread(part.data, part.offset, part.length, "", OUTSIDE, is_gap=True)
-            yield _gap(gaps.pop((part.offset, part.length), otherwise), folder, within)
-    rest = (it for it in content.unread if not it.is_gap or (it.offset, it.length) in gaps)
-    yield from _unread(rest, folder, within)
-
-
-def _gap(gap: Unread, folder: str, within: str) -> Entry:
-    """Returns the entry of bytes that are in no volume and in no section."""
-    path = f"{folder}outside-{gap.offset:08x}.bin"
-    return _lacking(Entry(path, gap, within, "outside", gap.what, gap.guid), gap.reason, f"not read: {gap.reason}")
-
-
 def _unread(found: Iterable[Unread], folder: str, within: str) -> Iterator[Entry]:
     """Yields the bytes in a folder that are not read."""
     counts: Counter[str] = Counter()
     for it in found:
-        if it.is_gap:
-            yield _gap(it, folder, within)
-        else:
-            path = folder + _numbered(f"{file_name(file_words(it.what))}-{it.offset:08x}.bin", counts)
-            yield _lacking(Entry(path, it, within, "unread", it.what, it.guid), it.reason, f"not read: {it.reason}")
+        name = "outside" if it.is_gap else file_name(file_words(it.what))
+        path = folder + _numbered(f"{name}-{it.offset:08x}.bin", counts)
+        entry = Entry(path, it, within, "outside" if it.is_gap else "unread", it.what, it.guid)
+        yield _lacking(entry, it.reason, f"not read: {it.reason}")
 
 
 def _numbered(name: str, counts: Counter[str]) -> str:

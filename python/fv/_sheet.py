@@ -10,13 +10,14 @@ import hashlib
 from collections import Counter
 from collections.abc import Callable, Hashable, Iterable, Iterator
 from dataclasses import dataclass, field
+from itertools import chain
 from typing import TypeVar
 
 from ._calls import volume_cells, volume_is_canonical, volume_tree, volume_tree_digests
 from ._errors import Fault, FaultError
+from ._model import Content, File, Part, Section, Unread, Volume, leaves
 from ._native import CellKind, NodeKind
 from ._types import Cell
-from .images import Content, File, Part, Section, Unread, Volume, leaves
 from .names import Names
 from .shown import printable
 
@@ -167,7 +168,8 @@ class _Walk:
     def sheets(self, volumes: Iterable[Volume], where: str, section: Section | None, digests: Digests) -> list[Sheet]:
         """Returns the sheets of the volumes in one image or in one section, and looks for parts that are not read also
         in the volumes above the limit. `digests` are the digests of a volume around them."""
-        found = [Sheet(it, self._name(it, number), number, section) for number, it in enumerate(volumes)]
+        every = chain.from_iterable((it, *it.volumes) for it in volumes)
+        found = [Sheet(it, self._name(it, number), number, section) for number, it in enumerate(every)]
         drawn = found[: self._left]
         self._left -= len(drawn)
         if len(drawn) < len(found):
@@ -211,7 +213,9 @@ class _Walk:
             self.lacks.append(lack)
         for row in sheet.rows:
             within, sections = inside(here, row.name), row.part.sections
+            self.lacks += _unread(row.part.unread, within, row.part)
             self.lacks += _in_sections(sections, within, row.part)
+            row.inner += self.sheets(row.part.volumes, within, None, None)
             for it in leaves(sections):
                 row.inner += self.sheets(_volumes_of(it), within, it, None if it.opened else digests)
 
@@ -240,9 +244,8 @@ class _Walk:
 
 def _volumes_of(section: Section) -> Iterator[Volume]:
     """Yields the volumes in a section, also those in sections that were opened in it."""
-    if section.volume:
-        yield section.volume
-    elif section.opened:
+    yield from section.volumes
+    if section.opened:
         yield from section.opened.every_volume()
         for inner in leaves(section.opened.sections):
             if inner.opened:

@@ -12,7 +12,8 @@ from typing import Any, ClassVar, TypeVar, overload
 
 from . import _native as native
 from ._errors import Fault, fault_of
-from ._native import CellKind, Content, FaultCode, NodeKind, RowKind, Way
+from ._native import CellKind, Content, FaultCode, Finding, NodeKind, PartKind, Reason, RowKind, StoreFormat
+from ._native import VariableStatus, Way
 
 Item = TypeVar("Item")
 
@@ -70,6 +71,46 @@ class SurveyRow:
     def is_leaf(self) -> bool:
         """Whether the row contains no other rows. Every byte of the image is in exactly one leaf row."""
         return self.kind not in CONTAINERS
+
+
+@dataclass(frozen=True, slots=True)
+class VariableRow:
+    """A row of variable stores or of signature lists: its offset and length in the input in bytes, its part, and its
+    finding (None if nothing is wrong with its bytes). A field that the part does not have is None.
+
+    A store has `format`, `size`, `state` and `formatted`. A variable has `state`, `status`, `attributes`,
+    `header_length`, `name_size`, `data_size` and `guid`, which is VendorGuid. An authenticated variable also has
+    `monotonic_count`, `public_key` and `time_stamp`, which are the 16 bytes of an EFI_TIME. A signature list has `size`
+    (SignatureListSize), `data_size` (SignatureSize) and `guid` (SignatureType), and `guid` of a signature is its
+    owner."""
+
+    offset: int
+    length: int
+    monotonic_count: int | None
+    part: PartKind
+    finding: Finding | None
+    format: StoreFormat | None
+    size: int | None
+    state: int | None
+    status: VariableStatus | None
+    attributes: int | None
+    header_length: int | None
+    name_size: int | None
+    data_size: int | None
+    public_key: int | None
+    formatted: int | None
+    guid: uuid.UUID | None
+    time_stamp: bytes | None
+
+    @property
+    def name_offset(self) -> int:
+        """The offset of the name of a variable in the input."""
+        return self.offset + (self.header_length or 0)
+
+    @property
+    def data_offset(self) -> int:
+        """The offset of the data of a variable in the input."""
+        return self.name_offset + (self.name_size or 0)
 
 
 @dataclass(frozen=True, slots=True)
@@ -133,6 +174,64 @@ class Opened:
 
 
 @dataclass(frozen=True, slots=True)
+class PackedSection:
+    """A packed section of an image, at some level: a compression section or a GUID-defined section.
+
+    `source` is the number of the source that the section is in. `offset` is the offset of the section in that source,
+    and `length` its length with its header, in bytes. `depth` is the number of opened sections around it, 0 to 8.
+    If the section is opened, `way` is the way that gave its contents, and `contents_length` the number of their bytes.
+    If it is not opened, `reason` says why; then `fault` is its fault if the reason is Reason.FAULT, and the offset of
+    the fault counts from the first byte of the section. A field that does not apply is None."""
+
+    source: int
+    offset: int
+    length: int
+    depth: int
+    way: Way | None
+    contents_length: int | None
+    reason: Reason | None
+    fault: Fault | None
+
+
+@dataclass(frozen=True, slots=True)
+class Source:
+    """A source of an image: the image itself, which is source 0, or the contents of a packed section.
+
+    `number` is its number, and `depth` the number of opened sections around its bytes: 0 for the image, otherwise 1 to
+    8. `packed` is the section whose contents it is, which is in an earlier source; it is None for the image. `rows` are
+    the rows of its survey, in preorder, with offsets in its bytes: they account for every byte. The rows of depth 0 of
+    the image are volumes, and those of contents are sections. `bytes` are its bytes, which nothing can write to over
+    this view. The view and the rows are memory of the library, which stays as long as anything refers to it."""
+
+    number: int
+    depth: int
+    bytes: memoryview
+    packed: PackedSection | None
+    rows: Sequence[SurveyRow]
+
+
+@dataclass(frozen=True, slots=True)
+class PartPlace:
+    """The place of a part of an image, at some level: the number of the source that the part is in, and its offset and
+    length there, in bytes. Source 0 is the image."""
+
+    source: int
+    offset: int
+    length: int
+
+
+@dataclass(frozen=True, slots=True)
+class Sameness:
+    """Whether two images mean the same at every level. If not, `first` and `second` are the places where they first
+    differ, in the first and in the second image. If only one image has a part there, the other place is None. The
+    number of a source is its number in image_open of the same image with the same limit."""
+
+    is_same: bool
+    first: PartPlace | None
+    second: PartPlace | None
+
+
+@dataclass(frozen=True, slots=True)
 class Hob:
     """A block of a hand-off list: the base address and the length of the volume that it describes (None if it does not
     describe one), HobType and HobLength."""
@@ -158,6 +257,11 @@ NODE_KINDS = {it.value: it for it in NodeKind}
 CONTENTS = {it.value: it for it in Content}
 WAYS = {it.value: it for it in Way}
 ROW_KINDS = {it.value: it for it in RowKind}
+REASONS = {it.value: it for it in Reason}
+PART_KINDS = {it.value: it for it in PartKind}
+FINDINGS = {it.value: it for it in Finding}
+STORE_FORMATS = {it.value: it for it in StoreFormat}
+STATUSES = {it.value: it for it in VariableStatus}
 # The kinds of rows of a survey that contain other rows.
 CONTAINERS = frozenset((RowKind.VOLUME, RowKind.FILE, RowKind.SECTION, RowKind.LOST))
 # The codes of the faults that can be findings, by the bits of a row.
@@ -189,7 +293,7 @@ class Rows(Sequence[Item]):
 
     __slots__ = ("_data",)
 
-    def __init__(self, data: bytes) -> None:
+    def __init__(self, data: bytes | memoryview) -> None:
         self._data = data
 
     def __len__(self) -> int:
@@ -228,7 +332,7 @@ class Rows(Sequence[Item]):
 
     def __reduce__(self) -> tuple[Any, ...]:
         """Lets rows be copied, and sent from one process to another."""
-        return type(self), (self._data,)
+        return type(self), (bytes(self._data),)
 
 
 def _quick(kind: type[Any], mend: Callable[[Any], None]) -> type[Any]:
@@ -275,6 +379,36 @@ class SurveyRows(Rows[SurveyRow]):
     layout, make = struct.Struct(native.SURVEY_ROW_FORMAT), _quick(SurveyRow, _mend_survey_row)
 
 
+# The fields that each part has, besides those that all parts have.
+_OF_VARIABLE = ("state", "status", "attributes", "header_length", "name_size", "data_size", "guid")
+_OF_AUTHENTICATED = ("monotonic_count", "public_key", "time_stamp")
+_FIELDS = {
+    PartKind.STORE_HEADER: ("format", "size", "state", "formatted"),
+    PartKind.VARIABLE: _OF_VARIABLE,
+    PartKind.LIST_HEADER: ("size", "data_size", "guid"),
+    PartKind.SIGNATURE: ("guid",),
+}
+_SOMETIMES = ("format", "size", "formatted", *_OF_VARIABLE, *_OF_AUTHENTICATED)
+_AUTHENTICATED_HEADER = 60  # bytes
+
+
+def _mend_variable_row(it: Any) -> None:
+    it.part, it.finding = PART_KINDS.get(it.part, it.part), FINDINGS.get(it.finding, it.finding or None)
+    it.format, it.status = STORE_FORMATS.get(it.format, it.format), STATUSES.get(it.status, it.status)
+    has: tuple[str, ...] = _FIELDS.get(it.part, ())
+    if it.part is PartKind.VARIABLE and it.header_length == _AUTHENTICATED_HEADER:
+        has = _OF_VARIABLE + _OF_AUTHENTICATED
+    if "guid" in has:
+        it.guid = _guid(it.guid)
+    for name in _SOMETIMES:
+        if name not in has:
+            setattr(it, name, None)
+
+
+class VariableRows(Rows[VariableRow]):
+    layout, make = struct.Struct(native.VARIABLE_ROW_FORMAT), _quick(VariableRow, _mend_variable_row)
+
+
 _WITH_HEADER = int(CellKind.FILE), int(CellKind.PAD)
 
 
@@ -314,6 +448,21 @@ class Digests(Rows[bytes | None]):
     @staticmethod
     def make(digest: bytes) -> bytes | None:
         return None if digest == _NO_DIGEST else digest
+
+
+class PackedSections(Rows[PackedSection]):
+    layout = struct.Struct(native.PACKED_FORMAT)
+
+    @staticmethod
+    def make(
+        source: int, offset: int, length: int, contents_length: int, at: int, result: int, around: int, side: int,
+        depth: int, way: Any, reason: Any,
+    ) -> PackedSection:  # fmt: skip
+        place = source, offset, length, depth
+        if not reason:
+            return PackedSection(*place, WAYS.get(way, way), contents_length, None, None)
+        fault = fault_of(at, result, around, side) if result else None
+        return PackedSection(*place, None, None, REASONS.get(reason, reason), fault)
 
 
 # The types of the blocks that describe a volume: EFI_HOB_TYPE_FV and EFI_HOB_TYPE_FV2.

@@ -42,9 +42,9 @@ from typing import BinaryIO
 from . import cli
 from ._calls import image_check, volume_is_canonical
 from ._errors import Fault, FaultError
+from ._model import unmarked
 from ._native import LENGTH_MAX, FaultCode
 from ._types import VolumeCheck
-from .images import unmarked
 from .limits import Full, Limits
 
 NAME = "fv-check"

@@ -35,8 +35,10 @@ OPS_WITH_GUID = OPS[:3]
 MOST_OPS = 50  # of an expression that are shown
 LONGEST_OP = 17  # bytes: an op and its GUID
 
-# The file systems of volumes that libfv does not read, by their GUIDs: FFS1, and the file systems of other firmware.
+# The file systems of volumes, by their GUIDs: those of the specification, older ones, and those of other firmware.
 FILE_SYSTEMS = {
+    uuid.UUID("8c8ce578-8a3d-4f1c-9935-896185c32dd3"): "FFS2",
+    uuid.UUID("5473c07a-3dcb-4dca-bd6f-1e9689e7349a"): "FFS3",
     uuid.UUID("fff12b8d-7696-4c8b-a985-2747075b4f50"): "variable store",
     uuid.UUID("00504624-8a59-4eeb-bd0f-6b36e96128e0"): "variable store",
     uuid.UUID("7a9354d9-0468-444a-81ce-0bf617d890df"): "FFS1 volume",

@@ -46,10 +46,10 @@ from typing import Any
 from . import cli
 from ._calls import volume_compare, volume_digest
 from ._errors import FaultError
-from .images import REMAINS, Content, File, Opened, Reader, Section, Unread, Volume
-from .images import between, leaves, places_of, volumes_in
+from ._model import REMAINS, Content, File, Opened, Section, Unread, Volume, between, leaves, places_of
+from .images import read
 from .limits import Full, Limits
-from .names import Names
+from .names import SECURITY_CORE, Names
 from .shown import indented, printable, quoted
 
 NAME = "fv-same"
@@ -154,19 +154,17 @@ def compare_images(
     if one of them exceeds a limit."""
     if first == second:
         return Report()
-    readers = Reader(first, limits), Reader(second, limits)
-    images = readers[0].image(), readers[1].image()
+    images = read(first, limits, is_open), read(second, limits, is_open)
     for number, image in enumerate(images):
-        if not image.volumes:
+        if not image.headed:
             note(number)
-    return Comparison(readers, is_open, Names()).report(*images)
+    return Comparison(is_open, Names()).report(*images)
 
 
 class Comparison:
-    """A comparison of two images. Their readers open sections where two files differ."""
+    """A comparison of two images, which goes into opened sections where two files differ."""
 
-    def __init__(self, readers: tuple[Reader, Reader], is_open: bool, names: Names) -> None:
-        self._readers = readers
+    def __init__(self, is_open: bool, names: Names) -> None:
         self._is_open = is_open
         self._names = names
         self._asides: list[Aside] = []
@@ -174,11 +172,11 @@ class Comparison:
 
     def report(self, first: Content, second: Content) -> Report:
         """Returns the differences between the two images."""
-        old, new = ({it.offset: it for it in image.volumes} for image in (first, second))
-        report = Report(is_other_layout=[*places_of(first.volumes)] != [*places_of(second.volumes)])
+        old, new = ({it.offset: it for it in image.headed} for image in (first, second))
+        report = Report(is_other_layout=[*places_of(first.headed)] != [*places_of(second.headed)])
         for at in sorted({*old, *new}):
             if at in old and at in new:
-                report.volumes.append(self._pair(old[at], new[at], 0))
+                report.volumes.append(self._pair(old[at], new[at]))
             else:
                 verdict, volume = (ONLY_FIRST, old[at]) if at in old else (ONLY_SECOND, new[at])
                 fixed = [len(volumes[at].fixed) if at in volumes else 0 for volumes in (old, new)]
@@ -191,7 +189,7 @@ class Comparison:
         report.verdict = _verdict(report)
         return report
 
-    def _pair(self, old: Volume, new: Volume, depth: int) -> Pair:
+    def _pair(self, old: Volume, new: Volume) -> Pair:
         """Returns the differences between two volumes."""
         pair = Pair(old.offset, new.offset, old.length, SAME, self._names.of(new.guid), faults=_faults(old, new))
         pair.fixed = [len(old.fixed), len(new.fixed)]
@@ -201,7 +199,7 @@ class Comparison:
             pair.first_byte = None if is_equal else old.offset + first_difference(old.body, new.body)
         elif difference := _difference(old, new):
             pair.verdict, pair.difference = DIFFERENT, difference
-            pair.files = self._changes(old, new, [], depth)
+            pair.files = self._changes(old, new, [])
             pair.is_other_order = [it.guid for it in old.files] != [it.guid for it in new.files]
         if not pair.faults:
             self._note_asides(old, new)
@@ -217,7 +215,7 @@ class Comparison:
         for file in old.files:
             other = files.get(file.guid)
             with self._around(str(file.guid)):
-                for one, two in zip(volumes_in(file.sections), volumes_in(other.sections if other else [])):
+                for one, two in zip(_volumes(file.sections), _volumes(other.sections if other else [])):
                     self._note_asides(one, two)
 
     @contextlib.contextmanager
@@ -229,58 +227,57 @@ class Comparison:
         finally:
             self._within.pop()
 
-    def _changes(self, first: Volume, second: Volume, around: list[str], depth: int) -> list[Change]:
+    def _changes(self, first: Volume, second: Volume, around: list[str]) -> list[Change]:
         """Returns the files that differ between two volumes."""
         old, new = ({file.guid: file for file in volume.files} for volume in (first, second))
         found = [self._change(ONLY_FIRST, file, around) for guid, file in old.items() if guid not in new]
         found += [self._change(ONLY_SECOND, file, around) for guid, file in new.items() if guid not in old]
         for guid, file in old.items():
             if guid in new:
-                found += self._changed(file, new[guid], around, depth)
+                found += self._changed(file, new[guid], around)
         return found
 
     def _change(self, change: str, file: File, around: list[str]) -> Change:
         """Returns a file that differs."""
         return Change(change, [*around, str(file.guid)], file.name, self._names.of(file.guid))
 
-    def _changed(self, old: File, new: File, around: list[str], depth: int) -> list[Change]:
+    def _changed(self, old: File, new: File, around: list[str]) -> list[Change]:
         """Returns the differences between two files with one name. If only files inside differ, returns only these."""
         inner: list[Change] = []
         is_changed = _own(old) != _own(new)
-        for one, two in zip(volumes_in(old.sections), volumes_in(new.sections)):
+        sections = _sections(old), _sections(new)
+        for one, two in zip(*map(_volumes, sections)):
             if _difference(one, two):
-                files = self._changes(one, two, [*around, str(new.guid)], depth)
+                files = self._changes(one, two, [*around, str(new.guid)])
                 is_changed = is_changed or not files
                 inner += files
         if not is_changed:
             return inner
         with self._around(str(new.guid)):
-            opened = self._opened(old.sections, new.sections, depth) if self._is_open else []
+            opened = self._opened(*sections) if self._is_open else []
         change = self._change("changed", new, around)
-        change.sections, change.opened = _other_sections(old.sections, new.sections), opened
+        change.sections, change.opened = _other_sections(*sections), opened
         return [change, *inner]
 
-    def _opened(self, old: list[Section], new: list[Section], depth: int) -> list[Inside]:
+    def _opened(self, old: list[Section], new: list[Section]) -> list[Inside]:
         """Returns the differences in the sections that can be opened."""
         packed = ([it for it in leaves(sections) if it.is_packed] for sections in (old, new))
-        return [self._section(one, two, depth) for one, two in zip(*packed) if one.body != two.body]
+        return [self._section(one, two) for one, two in zip(*packed) if one.body != two.body]
 
-    def _section(self, old: Section, new: Section, depth: int) -> Inside:
-        """Opens two sections, and returns their differences."""
-        for reader, section in zip(self._readers, (old, new)):
-            reader.open(section, depth)
+    def _section(self, old: Section, new: Section) -> Inside:
+        """Returns the differences between two packed sections."""
         if old.opened and new.opened:
-            return self._inside(old.opened, new.opened, depth + 1)
+            return self._inside(old.opened, new.opened)
         return Inside(old.type_name, NOT_OPENED, old.closed or new.closed)
 
-    def _inside(self, old: Opened, new: Opened, depth: int) -> Inside:
+    def _inside(self, old: Opened, new: Opened) -> Inside:
         """Returns the differences between the contents of two sections."""
-        volumes = old.every_volume(), new.every_volume()
+        volumes = [[*_volumes(it.sections), *it.headed] for it in (old, new)]
         found = Inside(new.way.name, DIFFERENT, None, _other_sections(old.sections, new.sections))
         with self._around(new.way.name):
-            pairs = [self._pair(one, two, depth) for one, two in zip(*volumes)]
+            pairs = [self._pair(one, two) for one, two in zip(*volumes)]
             found.volumes = [it for it in pairs if it.verdict not in (SAME, EQUAL_BYTES)]
-            found.opened = self._opened(old.sections, new.sections, depth)
+            found.opened = self._opened(old.sections, new.sections)
         others = [[it.body for it in opened.others] for opened in (old, new)]
         is_like = len(volumes[0]) == len(volumes[1]) and others[0] == others[1]
         if is_like and not found.sections and not found.volumes:
@@ -397,9 +394,20 @@ def _contents(sections: Iterable[Section]) -> list[Any]:
     ]
 
 
+def _sections(file: File) -> list[Section]:
+    """Returns the sections that are a part of the meaning of a file. The meaning of a security core is its bytes."""
+    return file.sections if file.kind != SECURITY_CORE else []
+
+
+def _volumes(sections: Iterable[Section]) -> Iterator[Volume]:
+    """Yields the volumes that are the bodies of sections."""
+    return (it.volume for it in leaves(sections) if it.volume)
+
+
 def _own(file: File) -> Any:
     """Returns a value that is equal for equal files, whatever volumes they hold."""
-    return file.kind, file.attributes, _contents(file.sections) if file.sections else file.body
+    sections = _sections(file)
+    return file.kind, file.attributes, _contents(sections) if sections else file.body
 
 
 def _other_sections(old: list[Section], new: list[Section]) -> list[str]:
@@ -413,7 +421,7 @@ def _other_sections(old: list[Section], new: list[Section]) -> list[str]:
 def _other_bytes(first: Content, second: Content) -> int | None:
     """Returns the offset of the first byte outside of volumes that differs. The two images have volumes at the same
     places."""
-    for start, end in between(0, places_of(first.volumes), max(len(first.data), len(second.data))):
+    for start, end in between(0, places_of(first.headed), max(len(first.data), len(second.data))):
         one, two = first.data[start:end], second.data[start:end]
         if one != two:
             return start + first_difference(one, two)

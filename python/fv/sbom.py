@@ -10,9 +10,11 @@ there is no date, and the serial number follows from the digest of the image.
 
 The bill names what is there, by digests. It does not name the supplier, the licence or the source of a file, because an
 image does not contain them. If the image was not read whole, the bill says that it is incomplete. After the files it
-then has a component of the type `file` for each part that is not read, with its digest and the reason: a rejected
-volume, a section that is not opened or whose contents may be wrong, a pad with contents, a deleted file, a variable
-store, and other bytes in no volume that are not erased.
+then has a component of the type `file` for each part that is not read, with its digest and the reason: a section that
+is not opened or whose contents may be wrong, a pad with contents, a deleted file, a variable store, lost bytes, and
+other bytes in no volume that are not erased. A volume that breaks rules has such a component too, with its first fault,
+and its files are components as all others. A file, or a part that is not read, has the rules that it breaks in the
+property `uefi:findings`.
 
 Exit status 0: the bill is complete. 1: the image has no volume, a section is not opened or its contents may be wrong,
 or bytes are not read. 2: a volume is rejected, or the image cannot be read or exceeds a limit; without a bill in the
@@ -30,8 +32,8 @@ from collections.abc import Iterable, Sequence
 from typing import Any
 
 from . import __version__, cli, images
+from ._model import File, every_leaf
 from ._parts import Entry, entries
-from .images import File, every_leaf
 from .names import PE32, TE, Names
 from .shown import printable
 
@@ -93,8 +95,9 @@ def of_unread(entry: Entry) -> dict[str, Any]:
 
 
 def _place_of(entry: Entry) -> list[Property]:
-    """Returns the type of a part and its place."""
-    return [("type", entry.kind or entry.what), ("offset", f"0x{entry.part.offset:x}"), ("in", entry.within)]
+    """Returns the type of a part and its place, and its findings if it has any."""
+    findings = [("findings", entry.findings)] * bool(entry.findings)
+    return [("type", entry.kind or entry.what), ("offset", f"0x{entry.part.offset:x}"), ("in", entry.within), *findings]
 
 
 parser = cli.of(NAME, __doc__, cli.IMAGE)

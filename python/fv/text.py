@@ -26,9 +26,9 @@ from dataclasses import replace
 from . import cli, images
 from ._calls import volume_tree, volume_tree_digests
 from ._errors import FaultError
+from ._model import LONGEST_TEXT, Content, Opened, Section, Volume, files_in, leaves, stored_files
 from ._native import NodeKind
 from ._types import Node
-from .images import LONGEST_TEXT, Content, Opened, Section, Volume, files_in, leaves, stored_files
 from .limits import Full
 from .names import GROUP, SUBTYPE, UI, VERSION
 from .opened import OF_MACHINE
@@ -39,11 +39,11 @@ NAME = "fv-text"
 
 def lines(image: Content, is_open: bool) -> Iterator[str]:
     """Yields the lines of an image. With --open it was read with its sections opened."""
-    for volume in image.volumes:
+    for volume in image.headed:
         yield from _volume(volume)
     yield f"other bytes {_sum(*(it.body for it in image.others))}"
     if is_open:
-        for _, file in files_in(image):
+        for file in (file for volume, file in files_in(image) if not volume.fault):
             for section in leaves(file.sections):
                 if section.opened or section.closed:
                     yield f"in file {file.guid}:"
@@ -71,15 +71,15 @@ def _volume(volume: Volume) -> Iterator[str]:
 
 def _list(volume: Volume) -> Iterator[str]:
     """Yields the lines of `list --sums`. Raises FaultError before the first line if the volume does not fit."""
-    data = volume.plain
-    digests, nodes = volume_tree_digests(data), volume_tree(data)
+    data = volume.body
+    digests, nodes = volume_tree_digests(data, without_marks=True), volume_tree(data, without_marks=True)
     counts = Counter(node.parent for node in nodes if node.kind == NodeKind.FILE)
     if volume.fixed:
         yield f"{len(volume.fixed)} of {len(volume.files)} files fixed"
-    files = stored_files(volume)
+    fixed = {it.offset - volume.offset for it in stored_files(volume) if it.is_fixed}
     for row, (node, digest) in enumerate(zip(nodes, digests)):
         ending = f" sha256 {digest.hex()}" if digest else ""
-        ending += " fixed" if node.kind == NodeKind.FILE and next(files).is_fixed else ""
+        ending += " fixed" if node.kind == NodeKind.FILE and node.offset in fixed else ""
         yield f"{'  ' * node.depth}{_line(node, counts[row], data)}{ending}"
 
 
@@ -127,7 +127,7 @@ def _packed(section: Section) -> Iterator[str]:
 def _opened(content: Opened) -> Iterator[str]:
     """Yields the lines of the contents of a section."""
     yield from _sections(content.sections)
-    for volume in content.volumes:
+    for volume in content.headed:
         yield from _volume(volume)
     if content.others:
         yield f"other bytes {_sum(*(it.body for it in content.others))}"
@@ -154,11 +154,11 @@ def _sections(sections: Iterable[Section]) -> Iterator[str]:
 def shown(data: bytes, is_open: bool) -> Iterator[str]:
     """Yields the lines of an image. An image that has no volume, or too many parts, is shown by its digest."""
     try:
-        image = images.read(data) if is_open else images.Reader(data).image()
+        image = images.read(data, is_open=is_open)
     except Full as what:
         yield f"more than {what}, {len(data)} bytes, {_sum(data)}"
         return
-    if image.volumes:
+    if image.headed:
         yield from lines(image, is_open)
     else:
         yield f"no volume, {len(data)} bytes, {_sum(data)}"

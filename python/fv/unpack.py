@@ -7,16 +7,18 @@ without sections are `body.bin`. Compressed sections are opened, and their conte
 section that is not opened is written as it is, and so are bytes outside of volumes, as `outside-OFFSET.bin`, unless all
 of them are 0x00 or all are 0xFF.
 
-An image is read whole, or the output says what is not read. Further files have the bytes of pads that are not erased,
-of deleted, superseded and unfinished files, and of what looks like the header of a volume but is not read as a volume,
-such as a variable store: `02-DXEFV/pad-00001234.bin` has its offset in its name. Standard output has a line for each
-volume, for each section that is not opened or whose contents may be wrong, and for all bytes that are not read, with
-the reason.
+An image is read whole, or the output says what is not read. Volumes are found at every byte, also in pads, in raw files
+and in lost bytes. A damaged volume, or one of an older format, is read as far as it can be read: its line has its first
+fault, and the parts that break rules have findings. Further files have the bytes of pads that are not erased, of
+deleted, superseded and unfinished files, of variable stores, and lost bytes, which cannot be read as a part of a
+volume: `02-DXEFV/pad-00001234.bin` has its offset in its name. Standard output has a line for each volume, for each
+section that is not opened or whose contents may be wrong, and for all bytes that are not read, with the reason.
 
 FOLDER/index.tsv has a row for each part: its path, which ends with a slash if it is a folder; its offset, and where
-that counts from, the image or the folder of an opened section; what it is, its type, GUID, name, size and SHA-256; and
-a note: how a section was opened or why it was not, why bytes are not read, the fault of a volume, whether a file is
-fixed, a dependency expression as text. A cell that a spreadsheet would take for a formula begins with an apostrophe.
+that counts from, the image or the folder of an opened section; what it is, its type, GUID, name, size and SHA-256; a
+note: how a section was opened or why it was not, why bytes are not read, the fault of a volume, whether a file is
+fixed, a dependency expression as text; and its findings, the numbers of the rules that it breaks, with commas. A cell
+that a spreadsheet would take for a formula begins with an apostrophe.
 
 With --list nothing is written to files: standard output has a line for each part, with its offset, size, type and path.
 An offset after a plus sign counts from the first byte of the contents of the opened section around the part. --sums
@@ -27,12 +29,12 @@ terminal. PART is the name or the GUID of a file or of a volume; or one of these
 the file, such as `DxeCore/PE32` or `DxeCore/dxe-depex`; or a path of the list. If several parts are called so, nothing
 is written, and standard error has their paths.
 
-Files that are marked fixed are unpacked as all others. A rejected volume becomes one file, `rejected.bin`, and the
-others are unpacked. FOLDER must not exist, or must be empty. It gets its contents when everything is written, so it is
-never incomplete. Each file is new and no link is followed, so nothing outside of FOLDER is written to, even if other
-users may write to FOLDER; but they may then change what is in it. An image is not trusted: at most N bytes are written,
-with the index (1 GiB without --most), and at most 5,000 files and one more for each 256 bytes of the image. At most
-1,000 sections are opened, and at most 100,000 parts are read. A file name that begins with a hyphen comes after `--`.
+Files that are marked fixed are unpacked as all others. FOLDER must not exist, or must be empty. It gets its contents
+when everything is written, so it is never incomplete. Each file is new and no link is followed, so nothing outside of
+FOLDER is written to, even if other users may write to FOLDER; but they may then change what is in it. An image is not
+trusted: at most N bytes are written, with the index (1 GiB without --most), and at most 5,000 files and one more for
+each 256 bytes of the image. The contents of opened sections have at most 40 MiB and 32 times the length of the image,
+and at most 100,000 parts are read. A file name that begins with a hyphen comes after `--`.
 
 Exit status 0: everything is unpacked, or the part is written. 1: the image has no volume, a section is not opened or
 its contents may be wrong, or bytes are not read; or --only names no part, or several. 2: a volume is rejected; or there
@@ -65,7 +67,7 @@ FORMULA = "=", "+", "-", "@", "\t", "\r"  # with which a cell begins that a spre
 LEAST_FILES, BYTES_OF_FILE = 5_000, 256  # that an image may have, and one more for this many bytes of the image
 MOST_PATHS = 20  # that are listed if several parts have a name
 
-COLUMNS = ("path", "offset", "in", "part", "type", "guid", "name", "size", "sha256", "note")
+COLUMNS = ("path", "offset", "in", "part", "type", "guid", "name", "size", "sha256", "note", "findings")
 
 
 def fields(entry: Entry) -> dict[str, Any]:
@@ -73,7 +75,7 @@ def fields(entry: Entry) -> dict[str, Any]:
     guid = str(entry.guid) if entry.guid else ""
     place = {"path": entry.path, "offset": entry.part.offset, "in": entry.within}
     what = {"part": entry.what, "type": entry.kind, "guid": guid, "name": printable(entry.name)}
-    return {**place, **what, "size": entry.part.length, "note": entry.note}
+    return {**place, **what, "size": entry.part.length, "note": entry.note, "findings": entry.findings}
 
 
 def index_row(entry: Entry) -> str:

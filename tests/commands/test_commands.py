@@ -14,12 +14,15 @@ from unittest import mock
 import fv.same
 from fv import cli
 
+from tests import stores
 from tests.checks import ROOT
 from tests.commands.room import ImageCase
 from tests.frame import needs_library
 
 ARCHIVE = str(ROOT / "recipes/archive/fv-archive")
-PACKAGE = ("fv-same", "fv-diff", "fv-unpack", "fv-sbom", "fv-map", "fv-text", "fv-check")
+PACKAGE = ("fv-same", "fv-diff", "fv-unpack", "fv-sbom", "fv-map", "fv-text", "fv-check", "fv-vars")
+# The images of the runs, if a command does not read any image.
+IMAGE_OF = {"fv-vars": "variables.fd"}
 BEFORE_IMAGE: dict[str, tuple[str, ...]] = {
     "fv-same": ("middle.fv",),
     "fv-diff": ("middle.fv",),
@@ -61,6 +64,7 @@ REFUSED = (
     ("0x10 is not a number of bytes", "fv-unpack", "--most", "0x10", "firmware.fd", "folder"),
     ("the following arguments are required: IMAGE", "fv-sbom"),
     ("the following arguments are required: IMAGE", "fv-map"),
+    ("the following arguments are required: IMAGE", "fv-vars"),
     ("IMAGE", "fv-text"),
     ("IMAGE", "fv-text", "--"),
     ("IMAGE or --from LIST is needed", "fv-check"),
@@ -148,6 +152,10 @@ class WithoutLibrary(ImageCase):
 class OfAll(ImageCase):
     """Runs of each command that reads an image."""
 
+    @classmethod
+    def images(cls) -> dict[str, bytes]:
+        return {"variables.fd": stores.volume(stores.store(stores.variable("Boot", b"1")))}
+
     def words(self, name: str, image: str) -> list[str]:
         """Returns the words that run a command over an image."""
         return [name, *BEFORE_IMAGE.get(name, ()), image]
@@ -155,7 +163,7 @@ class OfAll(ImageCase):
     def each_run(self) -> list[list[str]]:
         """Returns the words of a run of each command."""
         only = ["fv-unpack", "--only", "Alpha", "plain.fv"]
-        return [*(self.words(name, "plain.fv") for name in (*PACKAGE, ARCHIVE)), only]
+        return [*(self.words(name, IMAGE_OF.get(name, "plain.fv")) for name in (*PACKAGE, ARCHIVE)), only]
 
     def test_library_is_missing(self) -> None:
         for words in self.each_run():
@@ -185,12 +193,13 @@ class OfAll(ImageCase):
 
     def test_names_of_options(self) -> None:
         for name in PACKAGE:
-            plain = self.runs(0, *self.words(name, "plain.fv"))
+            image = IMAGE_OF.get(name, "plain.fv")
+            plain = self.runs(0, *self.words(name, image))
             for option in ("--help", "-x"):
-                shutil.copy("plain.fv", option)
+                shutil.copy(image, option)
                 with self.subTest(name=name, option=option):
                     said = self.runs(0, name, *BEFORE_IMAGE.get(name, ()), "--", option)
-                    self.assertEqual(said, plain.replace("plain.fv", option))
+                    self.assertEqual(said, plain.replace(image, option))
 
     def test_terminal(self) -> None:
         stored = self.runs(0, ARCHIVE, "add", "store", "plain.fv").split()[0]

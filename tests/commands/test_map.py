@@ -225,6 +225,8 @@ class Pages(MapCase):
         self.assertTrue(page.row_with("Summed")[6].endswith("(GUID-defined: the CRC32 is wrong)"))
         self.assertEqual(page.row_with("variable store", "40960")[3], "1.0 KiB")
         self.assertTrue(any(it.startswith("Not read: ") for it in page.texts))
+        row = self.page(1, "damaged.fd").row_with("0x48", "raw")
+        self.assertEqual(row[6], "(finding 11: the header of a file is damaged: its checksum is wrong)")
 
     def test_fixed_files(self) -> None:
         """A volume with fixed files is drawn as any other, with the number of fixed files. A removed mark counts as a
@@ -307,7 +309,8 @@ class Changes(MapCase):
         self.assertEqual(found, wanted)
 
     def test_parts_that_are_not_read(self) -> None:
-        """Changes of rejected volumes and of other bytes that are not read are found and counted."""
+        """Changes of rejected volumes and of other bytes that are not read are found and counted. A byte in the free
+        space of the rejected volume is lost."""
         data, places = made(True)
         other = bytearray(data)
         for at in (41400, places["deleted file"] + 4096 + 100):  # the first place is in the rejected volume
@@ -315,7 +318,8 @@ class Changes(MapCase):
         Path("other.fd").write_bytes(other)
         page = self.page(1, "--against", "new.fd", "other.fd")
         self.assertEqual([row[:2] for row in page.changes()], [["changed", "volume 1"]])
-        self.assertIn("Of the parts that are not read, 2 came or changed, and 2 went.", page.texts)
+        self.assertIn("Of the parts that are not read, 3 came or changed, and 2 went.", page.texts)
+        page.row_with("lost bytes came", "8 B")
         page.row_with("deleted file came", "it was deleted")
 
 

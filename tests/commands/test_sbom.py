@@ -61,10 +61,10 @@ class Bill(ImageCase):
     def test_parts_that_are_not_read(self) -> None:
         lines = map(json.loads, self.runs(1, "fv-unpack", "--list", "--json", "--sums", "hidden.fd").splitlines())
         rows = [it for it in lines if it["part"] == "unread"]
-        self.assertEqual([it["type"] for it in rows], ["pad", "volume", "deleted file"])
-        self.assertEqual(rows[2]["guid"], "00000009-7777-4777-8777-777777777777")
+        self.assertEqual([it["type"] for it in rows], ["pad", "deleted file"])
+        self.assertEqual(rows[1]["guid"], "00000009-7777-4777-8777-777777777777")
         types = [it["type"] for it in self.bill(1, "hidden.fd")["components"]]
-        self.assertEqual(types, ["firmware"] * 2 + ["file"] * 3)
+        self.assertEqual(types, ["firmware"] * 3 + ["file"] * 2)
         for row, it in zip(rows, self.unread(1, "hidden.fd"), strict=True):
             self.assertEqual((it["bom-ref"], it["hashes"][0]["content"]), (row["path"], row["sha256"]))
             place = [row["type"], hex(row["offset"]), row["in"], row["note"]]
@@ -80,6 +80,14 @@ class Bill(ImageCase):
             self.assertEqual(it["properties"][-1]["name"], "uefi:note", image)
             self.assertEqual(it["properties"][-1]["value"][: len(note)], note)
         self.assertEqual(self.bill(1, "none.bin")["compositions"][0]["aggregate"], "incomplete")
+
+    def test_damaged_volume(self) -> None:
+        """The files of a damaged volume are components, and one that breaks a rule says so. The volume is one too."""
+        found = self.bill(2, "damaged.fd")["components"]
+        self.assertEqual([it["name"] for it in found][1:], ["Alpha", found[2]["name"], "00-volume"])
+        findings = [values_of(it).get("uefi:findings") for it in found]
+        self.assertEqual(findings, ["11", None, None, None])
+        self.assertEqual(found[-1]["bom-ref"], "00-volume/")
 
     @unittest.skipUnless(has_schema, "no schema of CycloneDX (CYCLONEDX_SCHEMA), or no module jsonschema")
     def test_schema(self) -> None:

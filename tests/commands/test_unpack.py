@@ -35,7 +35,6 @@ DAMAGED = "fault 11 at 4168: the header of a file is damaged: its checksum is wr
 SYSTEM = "no volume of files begins here: its file system is neither FFS2 nor FFS3"
 GAP = "outside-00002000.bin: not read: it is in no volume"
 LATER = "01-volume: volume at 0x2040: 2 files"
-INSIDE = "not read: it is in bytes that are not read as volumes"
 HIDDEN = volume([A, making.pad(bytes(8) + volume([B], 0x1000)), making.deleted(guid(9), b"a driver"), C])
 MARKED, SUMMED = volume(making.fixed(), 0x4000), file(guid(4), noise("d", 777), attributes=making.SUMMED)
 PAIR = volume([A, B], 0x2000)
@@ -68,7 +67,7 @@ UNPACKED: Table = (
          f"{OTHER}guid-defined.bin: not opened: LZMA: more than 268435456 bytes",
          f"{OTHER}guid-defined-2.bin: not opened: LZMA: section fault 3 at 114: the packed data are damaged",
          f"{OTHER}guid-defined-3.bin: not opened: section fault 1 at 11: the section is cut short"], "deep.fd", (15, 7)),
-    (2, [f"00-volume: volume at 0x1000: {DAMAGED}", SMALL], "damaged.fd", (4, 2)),
+    (2, [f"00-volume: volume at 0x1000: {DAMAGED}", SMALL], "damaged.fd", (9, 4)),
     (0, [PLAIN], "plain.fv", (9, 5)),
     (0, ["00-volume: volume at 0x1000: 3 files, 2 of them fixed", SMALL], "fixed.fd", (12, 6)),
     (0, ["00-volume: volume at 0x1000: 2 files, 1 of them fixed", SMALL], "refused.fd"),
@@ -80,8 +79,8 @@ UNPACKED: Table = (
     (0, [ONE], "long.fd"),
     (0, [FIVE], "formula.fv"),
     (0, [TWO], "cores.fv"),
-    (1, [TWO, "00-volume/pad-00000c48.bin: not read: a pad holds bytes", f"00-volume/volume-00000c50.bin: {INSIDE}",
-         "00-volume/deleted-file-00001c50.bin: not read: it was deleted"], "hidden.fd"),
+    (1, [TWO, "01-volume: volume at 0xc50: 1 files", "00-volume/pad-00000c48.bin: not read: a pad holds bytes",
+         "00-volume/deleted-file-00001c50.bin: not read: it was deleted"], "hidden.fd", (12, 7)),
     # A volume that is not at a multiple of 8, as after the header of a capsule.
     (0, ["00-volume: volume at 0x1c: 3 files"], bytes(28) + volume([A, B, C]), (9, 5)),
     # Fixed files in opened contents and in a section there; one that is superseded; and a fault after fixed files.
@@ -94,12 +93,12 @@ UNPACKED: Table = (
     (2, ["00-volume: volume at 0x0: fault 14 at 8089: the data of a file are damaged: the file checksum is wrong"],
      volume([*making.fixed(), SUMMED[:17] + bytes([SUMMED[17] ^ 1]) + SUMMED[18:]])),
     # Volumes whose header is wrong, or of an older revision; and a variable store.
-    (1, [TWO, GAP, "volume-00002000.bin: not read: fault 6 at 8192: the header of a volume is damaged: its checksum is"
-                   " wrong"], PAIR + changed(50, b"\x12\x34")),
-    (1, [TWO, GAP, "volume-of-revision-1-00002000.bin: not read: fault 4 at 8247: the header of a volume is damaged, or"
-                   " its revision is not 2"], PAIR + changed(55, b"\1")),
-    (1, ["00-volume: volume at 0x2000: 2 files", GAP.replace("2", "0"),
-         f"variable-store-00000000.bin: not read: fault 3 at 16: {SYSTEM}"], STORE + PAIR),
+    (2, [TWO, "01-volume: volume at 0x2000: fault 6 at 8192: the header of a volume is damaged: its checksum is wrong"],
+     PAIR + changed(50, b"\x12\x34"), (14, 8)),
+    (2, [TWO, "01-volume: volume at 0x2000: fault 4 at 8247: the header of a volume is damaged, or its revision is not"
+              " 2"], PAIR + changed(55, b"\1"), (14, 8)),
+    (1, ["00-volume: volume at 0x2000: 2 files", f"variable-store-00000000.bin: not read: fault 3 at 16: {SYSTEM}"],
+     STORE + PAIR),
     # A section whose checksum is wrong, and bytes outside of volumes.
     (1, [TWO, f"{OTHER}crc32/: opened, but the CRC32 is wrong"],
      volume([A, file(guid(9), making.checked(section(RAW, b"data"), 1), FREEFORM)])),
@@ -115,8 +114,7 @@ NO_VOLUME: dict[str, list[str]] = {
     "none.bin": ["bytes at 0x0, 5000 bytes: not read: it is in no volume"],
     "zeros.bin": [],
     "signatures.bin": ["bytes at 0x0, 16000000 bytes: not read: it is in no volume"],  # they only look like volumes
-    "only-store.fd": ["bytes at 0x0, 8256 bytes: not read: it is in no volume",
-                      f"variable store at 0x0, 8192 bytes: not read: fault 3 at 16: {SYSTEM}"],
+    "only-store.fd": [f"variable store at 0x0, 8192 bytes: not read: fault 3 at 16: {SYSTEM}"],
 }  # fmt: skip
 LEFT = (
     "it contains .fv-unpack, which another run writes to, or which a run that was killed has left: if no other run"
@@ -330,11 +328,14 @@ class Unpack(PartsCase):
         found = [it for it in self.rows("firmware.fd") if it["in"] == MAIN]
         self.assertEqual((len(found), [it for it in found if not is_at(it, unpacked)]), (33, []))
 
-    def test_rejected_volume_is_one_file(self) -> None:
-        row, data = self.rows("damaged.fd")[0], Path("damaged.fd").read_bytes()
-        wanted = ["00-volume/rejected.bin", "0x1000", "image", "volume", "32768", DAMAGED]
-        self.assertEqual([row[it] for it in ("path", "offset", "in", "part", "size", "note")], wanted)
-        self.assertEqual(files_in("damaged.fd.d")["00-volume/rejected.bin"].read_bytes(), data[4096 : 4096 + 32768])
+    def test_rejected_volume_has_its_files(self) -> None:
+        rows, data = {it["path"]: it for it in self.rows("damaged.fd")}, Path("damaged.fd").read_bytes()
+        wanted = ["0x1000", "image", "volume", "32768", DAMAGED, ""]
+        columns = ("offset", "in", "part", "size", "note", "findings")
+        self.assertEqual([rows["00-volume/"][it] for it in columns], wanted)
+        file = rows[f"00-volume/000-{GUIDS[4]}/"]
+        self.assertEqual((file["note"], file["findings"]), (DAMAGED.replace("fault 11 at 4168", "finding 11"), "11"))
+        self.assertTrue(all(is_at(it, data) for it in rows.values()))
         self.rows("hidden.fd")
         pad = files_in("hidden.fd.d")["00-volume/pad-00000c48.bin"].read_bytes()
         self.assertEqual(pad, Path("hidden.fd").read_bytes()[3144 : 3144 + 4104])
@@ -423,7 +424,7 @@ class Unpack(PartsCase):
         self.assertEqual(json.loads(line)["name"], FORMULAS[0])
 
     def test_long_texts_are_cut(self) -> None:
-        for image, width in (("ops.fd", 524), ("long.fd", 448)):
+        for image, width in (("ops.fd", 528), ("long.fd", 456)):
             self.rows(image)
             lines = Path(f"{image}.d/index.tsv").read_text().splitlines()
             self.assertEqual(max(len(line.expandtabs()) for line in lines), width, image)
@@ -470,7 +471,7 @@ class OfDebian(PartsCase):
         self.assertIn(f"variable-store-00000000.bin: not read: fault 3 at 16: {SYSTEM}", lines)
         inner = "02-DXEFV: volume at 0xe0090 in 00-FVMAIN_COMPACT/000-FVMAIN_COMPACT_file/lzma/: 113 files"
         self.assertIn(inner, lines)
-        self.assertEqual(self.agrees("/usr/share/ovmf/OVMF.fd", "ovmf"), (623, 487))
+        self.assertEqual(self.agrees("/usr/share/ovmf/OVMF.fd", "ovmf"), (622, 486))
 
     @needs_firmware("qemu-efi-aarch64")
     def test_aavmf(self) -> None:

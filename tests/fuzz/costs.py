@@ -59,6 +59,7 @@ COMMANDS = {
         *("fv-unpack --list IMAGE", "fv-unpack --list --sums IMAGE", "fv-unpack --list --json IMAGE"),
         *("fv-unpack IMAGE FOLDER", "fv-sbom IMAGE", "fv-map IMAGE", "fv-map --against OTHER IMAGE", "fv-text IMAGE"),
         *("fv-text --open IMAGE", "fv-same IMAGE OTHER", "fv-same --open IMAGE OTHER", "fv-check IMAGE"),
+        "fv-vars IMAGE",
         *("fv tree IMAGE", "fv digests IMAGE"),
     ),
     "open": ("fvtool open IMAGE",),

@@ -24,7 +24,7 @@ import random
 import sys
 import tempfile
 import time
-from collections.abc import Sequence
+from collections.abc import Iterable, Iterator, Sequence
 from concurrent.futures import ProcessPoolExecutor
 from dataclasses import dataclass, field
 from multiprocessing import get_context
@@ -90,14 +90,17 @@ def wrong_drivers(index: int, rows: Sequence[Row]) -> list[str]:
 # The answers
 
 
-def library_survey(image: bytes) -> Survey:
-    """Returns the survey of the library."""
-    found = list[Row]()
-    for it in fv.image_survey(image):
+def rows_of(rows: Iterable[fv.SurveyRow]) -> Iterator[Row]:
+    """Yields the rows of the library as the laws know them."""
+    for it in rows:
         kind, findings = KINDS[it.kind - 1], frozenset(map(int, it.findings))
         name = it.name.bytes_le if it.name else bytes(16) if kind in ("file", "volume") else None
-        found.append(Row(kind, it.offset, it.length, it.depth, it.efi_type, name, it.found, findings))
-    return Survey(tuple(found))
+        yield Row(kind, it.offset, it.length, it.depth, it.efi_type, name, it.found, findings)
+
+
+def library_survey(image: bytes) -> Survey:
+    """Returns the survey of the library."""
+    return Survey(tuple(rows_of(fv.image_survey(image))))
 
 
 def library_reading(data: bytes) -> Strict | None:

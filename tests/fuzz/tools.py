@@ -1,7 +1,7 @@
 # SPDX-License-Identifier: BSD-2-Clause-Patent
 """Tries the readers of the Python package with the inputs of fuzz.py: `fv.images`, which opens compressed sections, and
-what fv-unpack, fv-same, fv-text, fv-map and fv-sbom show of an image. These readers are not proved, so an input may
-find defects that no other tool finds.
+what fv-unpack, fv-same, fv-text, fv-map, fv-sbom and fv-vars show of an image. These readers are not proved, so an
+input may find defects that no other tool finds.
 
 An input is a volume or a flash image, which may be packed into sections of a volume, up to three times: LZMA in each
 of its sections, the compression of the UEFI specification, CRC32, signed, stored or of an unknown GUID. Of the packed
@@ -21,21 +21,21 @@ import argparse
 import itertools
 import os
 import random
-import re
 import sys
 import time
 import traceback
 import uuid
-from collections.abc import Callable, Iterable, Iterator
+from collections.abc import Callable
 from functools import partial
 from pathlib import Path
 
 import fv
-from fv import images, same, sbom, text, unpack
+from fv import images, same, sbom, text, unpack, vars
 from fv._page import draw
 from fv._sheet import drawing_of
 from fv.limits import Full, Limits
-from fv.names import CODE, Names
+from fv.names import Names
+from fv.opened import is_erased
 from tests import making
 from tests.frame import LIBRARY
 from tests.fuzz.cases import Case, broken, make_case
@@ -43,7 +43,7 @@ from tests.fuzz.fuzz import KEPT, write_case
 from tests.fuzz.program import require
 
 SECONDS = 20
-LIMITS = Limits(total=1 << 26, section=1 << 24)
+LIMITS = Limits(total=1 << 26)
 NAMES = Names()
 SIGNED = uuid.UUID("a7717414-c616-4977-9420-844712a735bf")
 WAYS: list[Callable[[bytes], bytes]] = [
@@ -101,61 +101,35 @@ def is_shown(line: str) -> bool:
 
 def check_content(content: images.Content) -> None:
     """Checks that the parts of an image, or of opened contents, lie where they should."""
-    pieces = sorted([*content.volumes, *content.others], key=lambda it: it.offset)
+    pieces = sorted([*content.headed, *content.others], key=lambda it: it.offset)
     require(content.data[: content.end] + b"".join(it.body for it in pieces) == content.data, "bytes are missing")
+    parts = sorted([*content.volumes, *content.unread], key=lambda it: (it.offset, -it.length))
+    at = content.end
+    for part in parts:
+        require(part.offset <= at or is_erased(content.data, at, part.offset), "bytes are passed over", at)
+        at = max(at, part.end)
+    require(is_erased(content.data, at, len(content.data)), "bytes are passed over", at)
     for volume in content.volumes:
         check_volume(volume, 0, len(content.data))
     check_sections(content.sections, 0, content.end)
-    check_unread(content)
-
-
-def check_unread(content: images.Content) -> None:
-    """Checks that each gap that is not erased, and each place where a volume is likely to begin, is read or reported.
-    Places in the bodies of sections that may be opened, or are code, are left out."""
-    gaps = {(it.offset, it.length) for it in content.unread if it.is_gap}
-    shown = {(it.offset, it.length) for it in content.others if len({*it.body}) > 1 or it.body[0] not in (0, 255)}
-    require(gaps == shown, "other gaps", gaps, shown)
-    known = {it.offset for it in content.unread} | {*starts_in(content.every_volume())}
-    packed = [it for it in packed_in(content) if it.is_packed or it.kind in CODE]
-    for found in re.finditer(rb"(?=\0\0\0\0_FVH)", content.data):
-        at = found.start() - 36
-        length, header = int.from_bytes(content.data[at + 32 : at + 36], "little"), content.data[at + 48 : at + 50]
-        is_likely = at >= 0 and at + 56 <= len(content.data) and 56 <= int.from_bytes(header, "little") <= length
-        is_inside = any(it.offset - 56 < at < it.offset + it.length for it in packed)
-        require(not is_likely or at in known or is_inside, "a volume is passed over", at)
-
-
-def starts_in(volumes: Iterable[images.Volume]) -> Iterator[int]:
-    """Yields where volumes, the volumes inside them, and the parts that are not read begin."""
-    for volume in volumes:
-        yield from (volume.offset, *(it.offset for it in volume.unread))
-        for file in volume.files:
-            yield from starts_in(images.volumes_in(file.sections))
-
-
-def packed_in(content: images.Content) -> Iterator[images.Section]:
-    """Yields the sections of the data that are not groups, also those in volumes."""
-    yield from images.leaves(content.sections)
-    for volume in content.every_volume():
-        for file in images.stored_files(volume):
-            yield from images.leaves(file.sections)
 
 
 def check_volume(volume: images.Volume, start: int, end: int) -> None:
     """Checks a volume between two offsets."""
     require(start <= volume.offset and volume.offset + volume.length <= end, "a volume lies outside", volume.offset)
     try:
-        fv.volume_tree(volume.plain)
+        fv.volume_tree(volume.view, without_marks=True)
         fault = None
     except fv.FaultError as error:
         fault = error.fault
     require((fault is None) == (volume.fault is None), "another fault", fault, volume.fault)
-    require(volume.fault is None or not volume.files, "a rejected volume has files")
     for file in volume.files:
         require(volume.offset <= file.offset - file.header_length, "a file before its volume")
         require(file.offset + file.length <= volume.offset + volume.length, "a file after its volume")
-        require(file.is_fixed <= volume.is_marked, "a fixed file in a volume without marks")
+        require(bool(volume.fault) or file.is_fixed <= volume.is_marked, "a fixed file in a volume without marks")
         check_sections(file.sections, file.offset, file.offset + file.length)
+    for inner in volume.inner:
+        check_volume(inner, volume.offset, volume.end)
 
 
 def check_sections(sections: list[images.Section], start: int, end: int) -> None:
@@ -165,8 +139,8 @@ def check_sections(sections: list[images.Section], start: int, end: int) -> None
         require(section.offset + section.length <= end, "a section after its place", section.offset)
         require(not (section.opened and section.closed), "a section is opened and closed")
         check_sections(section.sections, section.offset, section.offset + section.length)
-        if section.volume:
-            check_volume(section.volume, section.offset, section.offset + section.length)
+        for volume in section.volumes:
+            check_volume(volume, section.offset, section.end)
         if section.opened:
             check_content(section.opened)
         require(is_shown(section.closed), "a reason", section.closed)
@@ -185,6 +159,7 @@ def check_shown(data: bytes, image: images.Content) -> None:
     rows = [unpack.index_row(it) for it in entries]
     require(all(row.count("\t") == rows[0].count("\t") for row in rows), "a row of the index")
     lines = [*unpack.table(entries, True), *text.shown(data, True), *text.shown(data, False), *rows]
+    lines += (line for part in vars.parts_of(data, NAMES) for line in vars.text(part))
     require(all(is_shown(line.replace("\t", "").rstrip("\n")) for line in lines), "a line")
     sbom.bill("image", data, entries)
     drawing = drawing_of("image", image, NAMES, 1000)

@@ -23,7 +23,7 @@ static const struct {
     {&buffer, sizeof buffer}, {header, sizeof header}, {digest, sizeof digest},
     {found, sizeof found},    {guid, sizeof guid},     {fault, sizeof fault},
     {count, sizeof count},    {length, sizeof length}, {number, sizeof number},
-    {way, sizeof way},        {contents, sizeof contents},
+    {way, sizeof way},        {contents, sizeof contents}, {handle, sizeof handle},
 };
 enum { WRITTEN = sizeof written / sizeof *written };
 

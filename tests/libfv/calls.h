@@ -49,8 +49,8 @@ static inline void put(uint8_t *to, const char *digits)
     for (unsigned byte; sscanf(digits, "%2x", &byte) == 1; digits += 2) *to++ = (uint8_t)byte;
 }
 
-/* Makes `volume`. The parameter is the size in the header of section 2; 9 is right. */
-static inline void make(unsigned inner)
+/* Makes `volume`, whose file has these data. */
+static inline void make_of(const uint8_t *bytes, unsigned size)
 {
     unsigned sum = 0, header = 0, data = 0;
     memset(volume, 0xff, sizeof volume);
@@ -61,13 +61,22 @@ static inline void make(unsigned inner)
     volume[50] = (uint8_t)-sum;
     volume[51] = (uint8_t)(-sum >> 8);
     memcpy(volume + FILE_AT, name, sizeof name);
-    put(volume + FILE_AT + 16, "00000240440000f8");
-    put(volume + DATA_AT, "ffffff140e00000007007600310000001400000309000019a1a2a3a4a50000000400000307000019b1b2b300");
-    volume[DATA_AT + 20] = (uint8_t)inner;
-    for (int i = 0; i < DATA_LEN; i++) data += volume[DATA_AT + i];
+    put(volume + FILE_AT + 16, "00000240000000f8");
+    volume[FILE_AT + 20] = (uint8_t)(DATA_AT - FILE_AT + size);
+    memcpy(volume + DATA_AT, bytes, size);
+    for (unsigned i = 0; i < size; i++) data += bytes[i];
     for (int i = 0; i < 23; i++) header += volume[FILE_AT + i];
     volume[FILE_AT + 16] = (uint8_t)-header; /* the header checksum leaves out the file checksum and State */
     volume[FILE_AT + 17] = (uint8_t)-data;
+}
+
+/* Makes `volume` with the sections. The parameter is the size in the header of section 2; 9 is right. */
+static inline void make(unsigned inner)
+{
+    uint8_t sections[DATA_LEN];
+    put(sections, "ffffff140e00000007007600310000001400000309000019a1a2a3a4a50000000400000307000019b1b2b300");
+    sections[20] = (uint8_t)inner;
+    make_of(sections, sizeof sections);
 }
 
 static inline void make_both(void)
@@ -80,10 +89,11 @@ static inline void make_both(void)
 /* The buffers and results that calls write to. Each result has room for a second element, so that a misaligned result
  * overlaps no other result. */
 static union {
-    uint8_t bytes[2048];
+    uint8_t bytes[4096];
     fv_header headers[ROOM];
     fv_volume_check checks[ROOM];
     fv_survey_row survey[SURVEY_ROOM];
+    fv_variable_row variables[SURVEY_ROOM];
     fv_cell cells[ROOM];
     fv_node nodes[ROOM];
     fv_sha256 digests[ROOM];
@@ -93,10 +103,12 @@ static union {
 static fv_header header[2];
 static fv_sha256 digest[2];
 static fv_comparison found[2];
+static fv_sameness sameness[2];
 static fv_way way[2];
 static fv_contents contents[2];
 static fv_fault fault[2];
 static fv_guid guid[2];
+static fv_image *handle[2];
 static size_t count[2], length[2];
 static uint32_t number[2];
 
@@ -126,6 +138,17 @@ MAKES(header_read, P(0), N(0), P(1), P(2))
 MAKES(image_scan, P(0), N(0), P(1), N(1), P(2), P(3))
 MAKES(image_check, P(0), N(0), P(1), N(1), P(2), P(3))
 MAKES(image_survey, P(0), N(0), P(1), N(1), P(2), P(3))
+/* Opens an image, and closes it. */
+static fv_result image_open(const struct argument *a)
+{
+    fv_image **opened = P(2);
+    fv_result result = fv_image_open(P(0), N(0), N(1), opened, P(3));
+    if (result) return result;
+    fv_image_close(*opened);
+    *opened = NULL;
+    return result;
+}
+MAKES(image_same, P(0), N(0), P(1), N(1), N(2), P(3), P(4))
 MAKES(image_normalise, P(0), N(0), P(1), N(1), P(2))
 MAKES(volume_is_canonical, P(0), N(0), P(1), P(2))
 MAKES(volume_normalise, P(0), N(0), P(1), N(1), P(2))
@@ -141,9 +164,12 @@ MAKES(volume_tree_digests_with, P(0), N(0), (uint32_t)N(1), P(2), N(2), P(3), P(
 MAKES(volume_extract_with, P(0), N(0), (uint32_t)N(1), N(2), P(3), N(3), P(4), P(5))
 MAKES(section_way, P(0), N(0), P(1), P(2))
 MAKES(section_open, P(0), N(0), N(1), P(2), N(2), P(3), P(4))
+MAKES(sections_survey, P(0), N(0), P(1), N(1), P(2), P(3))
 MAKES(sections_tree, P(0), N(0), (uint32_t)N(1), P(2), N(2), P(3), P(4))
 MAKES(sections_tree_digests, P(0), N(0), (uint32_t)N(1), P(2), N(2), P(3), P(4))
 MAKES(sections_extract, P(0), N(0), (uint32_t)N(1), N(2), P(3), N(3), P(4), P(5))
+MAKES(variables_read, P(0), N(0), P(1), N(1), P(2), P(3))
+MAKES(signatures_read, P(0), N(0), P(1), N(1), P(2), P(3))
 MAKES(depex_evaluate, P(0), N(0), (uint32_t)N(1), P(2), N(2), P(3), P(4))
 MAKES(hobs_read, P(0), N(0), P(1), N(1), P(2), P(3), P(4))
 MAKES(guid_text, P(0), P(1), N(1))
@@ -165,6 +191,8 @@ static const struct call calls[] = {
     CALL(image_scan, OK, IN(volume), ROWS(headers), ONE(count), ITS_FAULT),
     CALL(image_check, OK, IN(volume), ROWS(checks), ONE(count), ITS_FAULT),
     CALL(image_survey, OK, IN(volume), ELEMENTS(BUFFER, buffer.survey, SURVEY_ROOM), ONE(count), ITS_FAULT),
+    CALL(image_open, OK, IN(volume), VALUE(100), ONE(handle), ITS_FAULT),
+    CALL(image_same, OK, IN(volume), IN(other), VALUE(100), ONE(sameness), ITS_FAULT),
     CALL(image_normalise, OK, IN(volume), OUT(bytes), ITS_FAULT),
     CALL(volume_is_canonical, FAULT_TRUNCATED, IN(volume), ONE(number), ITS_FAULT),
     CALL(volume_normalise, FAULT_TRUNCATED, IN(volume), OUT(bytes), ITS_FAULT),
@@ -180,9 +208,12 @@ static const struct call calls[] = {
     CALL(volume_extract_with, FAULT_TRUNCATED, IN(volume), UNMARKED, VALUE(1), OUT(bytes), ONE(length), ITS_FAULT),
     CALL(section_way, FAULT_OPEN_SHORT, IN(packed), ONE(way), ITS_FAULT),
     CALL(section_open, FAULT_OPEN_SHORT, IN(packed), VALUE(100), OUT(bytes), ONE(contents), ITS_FAULT),
+    CALL(sections_survey, OK, IN(stream), ELEMENTS(BUFFER, buffer.survey, SURVEY_ROOM), ONE(count), ITS_FAULT),
     CALL(sections_tree, OK, IN(stream), UNMARKED, ROWS(nodes), ONE(count), ITS_FAULT),
     CALL(sections_tree_digests, OK, IN(stream), UNMARKED, ROWS(digests), ONE(count), ITS_FAULT),
     CALL(sections_extract, NOT_FOUND, IN(stream), UNMARKED, VALUE(1), OUT(bytes), ONE(length), ITS_FAULT),
+    CALL(variables_read, OK, IN(volume), ELEMENTS(BUFFER, buffer.variables, SURVEY_ROOM), ONE(count), ITS_FAULT),
+    CALL(signatures_read, OK, IN(volume), ELEMENTS(BUFFER, buffer.variables, SURVEY_ROOM), ONE(count), ITS_FAULT),
     CALL(depex_evaluate, FAULT_DEPEX_NO_END, IN(expression), VALUE(FV_PHASE_DXE), ELEMENTS(INPUT, guid, 1), ONE(number),
          ITS_FAULT),
     CALL(hobs_read, FAULT_HOB_NO_END, IN(list), ROWS(hobs), ONE(count), ONE(length), ITS_FAULT),

@@ -1,8 +1,9 @@
 /* SPDX-License-Identifier: BSD-2-Clause-Patent */
 /* Checks results that were worked out by hand, for the volume of calls.h: the rows of its tree and of its survey, its
- * parts and digests, and a fault, and for the stream of sections in it. Also checks the surveys of small images, the
- * contents of packed sections, the text of a GUID, and the text of each result. (The checks of tests/fuzz/libfv compare
- * each field of each structure with the bytes of an input.) */
+ * parts and digests, and a fault, and for the stream of sections in it. Also checks the surveys of small images, the rows
+ * of variable stores and of signature lists, the contents of packed sections, an open image, images that mean the same,
+ * the text of a GUID, and the text of each result. (The checks of tests/fuzz/libfv compare each field of each structure
+ * with the bytes of an input.) */
 #include "calls.h"
 
 enum { ATTRIBUTES = 0x0004feff };
@@ -127,6 +128,20 @@ static void expect_survey(const uint8_t *image, size_t size, const fv_survey_row
     EXPECT(!fault->result);
 }
 
+/* Checks the survey of the stream: the rows of the data of the file, two less deep, and counted from the first byte of the
+ * data. */
+static void try_stream_survey(void)
+{
+    enum { FIRST = 4, ROWS_OF_DATA = 16 };
+    fv_survey_row wanted[ROWS_OF_DATA];
+    memcpy(wanted, rows + FIRST, sizeof wanted);
+    for (int i = 0; i < ROWS_OF_DATA; i++) wanted[i].offset -= DATA_AT, wanted[i].depth -= 2;
+    make_both();
+    begin("the survey of a stream");
+    EXPECT(fv_sections_survey(stream, DATA_LEN, buffer.survey, SURVEY_ROOM, count, fault) == FV_OK && *count == ROWS_OF_DATA);
+    EXPECT(!memcmp(buffer.survey, wanted, sizeof wanted) && buffer.bytes[sizeof wanted] == FILLED);
+}
+
 /* Checks surveys: of bytes outside of volumes, of the volume, of the volume with a wrong header checksum, and of a
  * volume with a byte in its free space. A buffer that is too small is full of the first rows. */
 static void try_survey(void)
@@ -163,6 +178,82 @@ static void try_survey(void)
     put(image + 56, "0100000058");
     image[87] = 0;
     expect_survey(image, sizeof image, damaged, 5);
+}
+
+/* The bytes of the GUIDs of a plain store, of an authenticated store, and of a working block; and the owner of the
+ * variables. */
+#define PLAIN "1636cfdd7532644198b6fe85707ffe7d"
+#define AUTHENTICATED "782cf3aa7b949a43a1802e144ec37792"
+#define WORKING "2b29589e687c7d49a0ce6500fd9f1b95"
+#define VENDOR "101112131415161718191a1b1c1d1e1f"
+#define VENDOR_BYTES {{16, 17, 18, 19, 20, 21, 22, 23, 24, 25, 26, 27, 28, 29, 30, 31}}
+
+/* Checks that a call writes these rows. */
+static void expect_variables(__typeof__(fv_variables_read) read, const uint8_t *bytes, size_t size,
+                             const fv_variable_row *wanted, size_t n)
+{
+    memset(&buffer, FILLED, sizeof buffer);
+    EXPECT(read(bytes, size, buffer.variables, SURVEY_ROOM, count, fault) == FV_OK && *count == n && !fault->result);
+    EXPECT(!memcmp(buffer.variables, wanted, n * sizeof *wanted) && buffer.bytes[n * sizeof *wanted] == FILLED);
+    memset(&buffer, FILLED, sizeof buffer);
+    if (!n) return;
+    EXPECT(read(bytes, size, buffer.variables, n - 1, count, fault) == FV_BUFFER_TOO_SMALL && *count == n);
+    EXPECT(!memcmp(buffer.variables, wanted, (n - 1) * sizeof *wanted));
+    EXPECT(buffer.bytes[(n - 1) * sizeof *wanted] == FILLED && !fault->result);
+}
+
+/* Checks the rows of a plain store with a variable, a filler, a deleted variable and free bytes, of a working block and
+ * of other bytes; of an authenticated store with a variable; and of a signature list with a signature and two bytes. */
+static void try_variables(void)
+{
+    uint8_t plain[180], authenticated[97], lists[66];
+    const fv_variable_row of_plain[] = {
+        {.length = 28, .part = FV_PART_STORE_HEADER, .format = FV_STORE_PLAIN, .size = 128, .state = 0xfe,
+         .formatted = 0x5a},
+        {.offset = 28, .length = 39, .part = FV_PART_VARIABLE, .state = 0x3f, .status = FV_VARIABLE_ADDED,
+         .attributes = 7, .header_length = 32, .name_size = 4, .data_size = 3, .guid = VENDOR_BYTES},
+        {.offset = 67, .length = 1, .part = FV_PART_FILLER},
+        {.offset = 68, .length = 36, .part = FV_PART_VARIABLE, .state = 0x3c, .status = FV_VARIABLE_DELETED,
+         .attributes = 3, .header_length = 32, .name_size = 4, .guid = VENDOR_BYTES},
+        {.offset = 104, .length = 24, .part = FV_PART_FREE},
+        {.offset = 128, .length = 8, .part = FV_PART_FREE},
+        {.offset = 136, .length = 40, .part = FV_PART_WORKING_BLOCK},
+        {.offset = 176, .length = 4, .part = FV_PART_UNREAD, .finding = FV_FINDING_NO_STORE}};
+    const fv_variable_row of_authenticated[] = {
+        {.length = 28, .part = FV_PART_STORE_HEADER, .finding = FV_FINDING_STORE_STATE, .format = FV_STORE_AUTHENTICATED,
+         .size = 97, .formatted = 0x5a},
+        {.offset = 28, .length = 65, .monotonic_count = 5, .part = FV_PART_VARIABLE, .state = 0x3e,
+         .status = FV_VARIABLE_REPLACED, .attributes = 0x27, .header_length = 60, .name_size = 4, .data_size = 1,
+         .public_key = 9, .guid = VENDOR_BYTES, .time_stamp = {0xe6, 0x07, 0x0c, 0x01, 0x0e, 0x32}},
+        {.offset = 93, .length = 3, .part = FV_PART_FILLER},
+        {.offset = 96, .length = 1, .part = FV_PART_UNREAD, .finding = FV_FINDING_START_ID}};
+    const fv_variable_row of_lists[] = {
+        {.length = 28, .part = FV_PART_LIST_HEADER, .size = 47, .data_size = 17, .guid = VENDOR_BYTES},
+        {.offset = 28, .length = 17, .part = FV_PART_SIGNATURE, .guid = {NAME_BYTES}},
+        {.offset = 45, .length = 2, .part = FV_PART_UNREAD, .finding = FV_FINDING_SIGNATURE_SIZE},
+        {.offset = 47, .length = 19, .part = FV_PART_UNREAD, .finding = FV_FINDING_LIST_SIZE}};
+    memset(plain, 0xff, sizeof plain);
+    put(plain, PLAIN "800000005afe000000000000");
+    put(plain + 28, "aa553f00070000000400000003000000" VENDOR "4100000078797a");
+    put(plain + 68, "aa553c00030000000400000000000000" VENDOR "42000000");
+    put(plain + 136, WORKING "00000000feffffff0800000000000000");
+    put(plain + 176, "61626364");
+    begin("a plain store");
+    expect_variables(fv_variables_read, plain, sizeof plain, of_plain, 8);
+    memset(authenticated, 0, sizeof authenticated);
+    put(authenticated, AUTHENTICATED "610000005a");
+    put(authenticated + 28, "aa553e00270000000500000000000000e6070c010e320000");
+    put(authenticated + 60, "090000000400000001000000" VENDOR "4b0000007a");
+    begin("an authenticated store");
+    expect_variables(fv_variables_read, authenticated, sizeof authenticated, of_authenticated, 4);
+    memset(lists, 0, sizeof lists);
+    put(lists, VENDOR "2f0000000000000011000000");
+    memcpy(lists + 28, name, 16);
+    begin("signature lists");
+    expect_variables(fv_signatures_read, lists, sizeof lists, of_lists, 4);
+    begin("no bytes");
+    expect_variables(fv_variables_read, NULL, 0, of_plain, 0);
+    expect_variables(fv_signatures_read, NULL, 0, of_lists, 0);
 }
 
 /* Checks a volume whose file is marked as fixed: with the flag, the rows, the digests and the parts are the same as in
@@ -252,12 +343,99 @@ static void try_packed(void)
     expect_closed(stored, sizeof stored, 7, FV_FAULT_OPEN_WAY, 8);
 }
 
+/* Checks that a source of an open image has these bytes, and these rows. */
+static void expect_source(const fv_image *it, size_t source, const void *bytes, size_t size, const fv_survey_row *rows,
+                          size_t n)
+{
+    EXPECT(!memcmp(fv_image_source_bytes(it, source, count), bytes, size) && *count == size);
+    EXPECT(!memcmp(fv_image_source_rows(it, source, count), rows, n * sizeof *rows) && *count == n);
+}
+
+/* Checks that an open image has only this packed section. */
+static void expect_section(const fv_image *it, fv_packed wanted)
+{
+    const fv_packed *all = fv_image_packed(it, count);
+    EXPECT(*count == 1 && !memcmp(all, &wanted, sizeof wanted));
+}
+
+/* Checks that no image and no source has bytes or rows. */
+static void expect_no_source(const fv_image *it, size_t source)
+{
+    *count = *length = 9;
+    EXPECT(!fv_image_source_bytes(it, source, count) && !*count && !fv_image_source_rows(it, source, length) && !*length);
+    EXPECT(!fv_image_source_bytes(it, source, NULL) && !fv_image_source_rows(it, source, NULL));
+}
+
+/* Checks an open image: the volume with the packed section as its file, first opened, and then with a limit of 0. */
+static void try_image(void)
+{
+    const fv_survey_row of_inner[3] = {{0, 7, FV_ROW_SECTION, 0, 0x19, 0, 0, {{0}}, 0},
+                                       {0, 4, FV_ROW_SECTION_HEADER, 1, 0, 0, 0, {{0}}, 0},
+                                       {4, 3, FV_ROW_BODY, 1, 0, 0, 0, {{0}}, 0}};
+    fv_survey_row own[SURVEY_ROOM];
+    size_t n;
+    make_of(packed, sizeof packed);
+    EXPECT(fv_image_survey(volume, LENGTH, own, SURVEY_ROOM, &n, NULL) == FV_OK);
+    begin("an open image");
+    EXPECT(fv_image_open(volume, LENGTH, UINT64_MAX, handle, fault) == FV_OK && !fault->result);
+    EXPECT(fv_image_source_count(*handle) == 2 && fv_image_source_bytes(*handle, 0, NULL) == volume);
+    expect_source(*handle, 0, volume, LENGTH, own, n);
+    expect_source(*handle, 1, inner, sizeof inner, of_inner, 3);
+    expect_section(*handle, (fv_packed){0, DATA_AT, sizeof packed, 7, {0, 0, 0, 0, 0}, 0, FV_WAY_LZMA, 0, 0});
+    expect_no_source(*handle, 2);
+    expect_no_source(*handle, SIZE_MAX);
+    fv_image_close(*handle);
+    begin("an open image with a limit");
+    EXPECT(fv_image_open(volume, LENGTH, 0, handle, NULL) == FV_OK && fv_image_source_count(*handle) == 1);
+    expect_source(*handle, 0, volume, LENGTH, own, n);
+    expect_section(*handle, (fv_packed){0, DATA_AT, sizeof packed, 0, {0, 0, 0, 0, 0}, 0, 0, FV_REASON_LIMIT, 0});
+    fv_image_close(*handle);
+    begin("no image");
+    EXPECT(fv_image_open(NULL, 0, 7, handle, fault) == FV_OK && fv_image_source_count(*handle) == 1);
+    EXPECT(!fv_image_source_bytes(*handle, 0, count) && !*count && fv_image_source_rows(*handle, 0, count) && !*count);
+    EXPECT(fv_image_packed(*handle, NULL) && fv_image_packed(*handle, count) && !*count);
+    fv_image_close(*handle);
+    fv_image_close(NULL);
+    EXPECT(!fv_image_source_count(NULL) && !fv_image_packed(NULL, count) && !*count && !fv_image_packed(NULL, NULL));
+    expect_no_source(NULL, 0);
+    make(9);
+}
+
 /* Checks that a call rejects a volume whose group has a section that does not fit, and changes nothing else. */
 static void expect_fault(fv_result result, uint32_t input)
 {
     const fv_fault wanted = {DATA_AT + 20, FV_FAULT_SECTION_SIZE, 1, input, 0};
     EXPECT(result == FV_FAULT_SECTION_SIZE && !memcmp(fault, &wanted, sizeof wanted));
     EXPECT(*count == 9 && *length == 9 && buffer.bytes[0] == FILLED);
+}
+
+/* Compares two images, and checks what is found. */
+static void expect_sameness(const uint8_t *first, size_t first_size, const uint8_t *second, size_t second_size,
+                            const fv_sameness *wanted)
+{
+    memset(sameness, FILLED, sizeof sameness);
+    EXPECT(fv_image_same(first, first_size, second, second_size, FV_CONTENTS_MAX, sameness, fault) == FV_OK);
+    EXPECT(!memcmp(sameness, wanted, sizeof *wanted) && !fault->result);
+    EXPECT(*(const uint8_t *)(sameness + 1) == FILLED);
+}
+
+/* Checks images that differ in a checksum, in a byte of a section, and in the number of parts. */
+static void try_same(void)
+{
+    const fv_sameness none = {{0}, {0}, 1, 0};
+    const fv_part_place body = {0, DATA_AT + 40, 3, 1, 0}, first = {0, 0, FILE_AT, 1, 0};
+    make_both();
+    begin("two images that mean the same");
+    other[50]++;
+    expect_sameness(volume, LENGTH, other, LENGTH, &none);
+    expect_sameness(NULL, 0, NULL, 0, &none);
+    begin("two images that differ in a section");
+    other[DATA_AT + 41]++;
+    expect_sameness(volume, LENGTH, other, LENGTH, &(fv_sameness){body, body, 0, 0});
+    begin("an image without parts");
+    expect_sameness(volume, LENGTH, NULL, 0, &(fv_sameness){first, {0}, 0, 0});
+    expect_sameness(NULL, 0, volume, LENGTH, &(fv_sameness){{0}, first, 0, 0});
+    make_both();
 }
 
 static void try_fault(void)
@@ -308,8 +486,12 @@ int main(void)
     try_tree();
     try_stream();
     try_survey();
+    try_stream_survey();
+    try_variables();
     try_marks();
     try_packed();
+    try_image();
+    try_same();
     try_fault();
     try_guid();
     try_texts();

@@ -2,11 +2,12 @@
 """The inputs of the tests of the library: the bytes that rows of crates/fv_run_tests/rows spell, inputs that
 tests/fuzz/cases.py makes, and texts that are nearly a GUID."""
 
+import itertools
 from collections.abc import Iterator
 from pathlib import Path
 
 import rows
-from tests import making
+from tests import making, stores
 from tests.fuzz.cases import make_case
 
 # The files of rows whose words spell the input of a run or of a call.
@@ -72,6 +73,18 @@ def packed() -> Iterator[bytes]:
     yield from (making.guided(making.UNKNOWN, data, 0), making.guided(making.UNKNOWN, data))
 
 
+def stored() -> Iterator[bytes]:
+    """Yields variable stores with variables in each state, a working block, and signature lists."""
+    states = stores.ADDED, stores.REPLACED, stores.DELETED, stores.HEADER_ONLY, 0
+    plain = [stores.variable("Name", b"data", state=it) for it in states]
+    secure = [stores.variable("db", b"data", stores.DATABASE, state=it, fields=stores.FIELDS) for it in states]
+    yield stores.store(*plain, stores.UNFINISHED) + b"\xff" * 8 + stores.working_block(8) + b"more"
+    yield stores.volume(stores.store(*secure, kind=stores.AUTHENTICATED), stores.working_block())
+    yield stores.store(*plain)[:200]
+    lists = stores.signature_list(stores.X509, stores.GLOBAL, b"data", b"more")
+    yield lists + stores.signature_list(stores.SHA256, stores.DATABASE, bytes(32)) + b"rest"
+
+
 def fixed() -> Iterator[bytes]:
     """Yields volumes with fixed files at several depths: in the volume, in a volume in one of its files, and in a group
     around that volume."""
@@ -85,7 +98,8 @@ def fixed() -> Iterator[bytes]:
 def small_files(folder: Path) -> list[Path]:
     """Writes the small inputs to a folder, each once."""
     texts = (it.encode() for it in TEXTS)
-    found = dict.fromkeys([*PAIR, *made(7, 60), *spelled(), *expressions(), *images(), *packed(), *fixed(), *texts, b""])
+    every = (PAIR, made(7, 60), spelled(), expressions(), images(), packed(), stored(), fixed(), texts, [b""])
+    found = dict.fromkeys(itertools.chain.from_iterable(every))
     files = []
     for number, data in enumerate(data for data in found if len(data) <= SMALL):
         files.append(folder / f"{number}.input")

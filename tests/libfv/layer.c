@@ -6,7 +6,7 @@
  * passed on. */
 #include "calls.h"
 
-enum { RETURNED = 0x12345678, MOST_PASSED = 8 };
+enum { RETURNED = 0x12345678, MOST_PASSED = 9 };
 
 /* What was passed on. The truth value that stands for flags is not among the other arguments. */
 static struct {
@@ -45,6 +45,12 @@ PROVED_ONE(header_read, fv_header)
 PROVED_ROWS(image_scan, fv_header)
 PROVED_ROWS(image_check, fv_volume_check)
 PROVED_ROWS(image_survey, fv_survey_row)
+PROVED(image_open,
+       (const void *a, size_t b, uint64_t c, fv_packed *d, size_t e, void *f, size_t g, void *h, fv_fault *i), U(a), b,
+       c, U(d), e, U(f), g, U(h), U(i))
+PROVED(image_same,
+       (const void *a, size_t b, const void *c, size_t d, uint64_t e, fv_sameness *f, fv_fault *g), U(a), b, U(c), d, e,
+       U(f), U(g))
 PROVED_COPY(image_normalise)
 PROVED_ONE(volume_is_canonical, uint32_t)
 PROVED_COPY(volume_normalise)
@@ -60,9 +66,12 @@ PROVED_PART_WITH(volume_extract)
 PROVED_ONE(section_way, fv_way)
 PROVED(section_open, (const void *a, size_t b, size_t c, void *d, size_t e, fv_contents *f, fv_fault *g), U(a), b, c,
        U(d), e, U(f), U(g))
+PROVED_ROWS(sections_survey, fv_survey_row)
 PROVED_ROWS_WITH(sections_tree, fv_node)
 PROVED_ROWS_WITH(sections_tree_digests, fv_sha256)
 PROVED_PART_WITH(sections_extract)
+PROVED_ROWS(variables_read, fv_variable_row)
+PROVED_ROWS(signatures_read, fv_variable_row)
 PROVED(depex_evaluate, (const void *a, size_t b, uint32_t c, const fv_guid *d, size_t e, uint32_t *f, fv_fault *g),
        U(a), b, c, U(d), e, U(f), U(g))
 PROVED(hobs_read, (const void *a, size_t b, fv_hob *c, size_t d, size_t *e, size_t *f, fv_fault *g), U(a), b, U(c), d,
@@ -110,6 +119,7 @@ int main(void)
     unsigned tried = 0;
     for (EACH_CALL(call)) {
         if (!strncmp(call->name, "fv_guid_", 8)) continue; /* these calls are below no layer */
+        if (!strcmp(call->name, "fv_image_open")) continue; /* this call makes several proved calls */
         struct argument all[MOST];
         memcpy(all, call->all, sizeof all);
         snprintf(trying, sizeof trying, "%s", call->name);

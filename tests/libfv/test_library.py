@@ -19,7 +19,7 @@ ARCHIVE = LIBRARY.with_name("libfv.a")
 CC, CXX = os.environ.get("CC", "cc"), os.environ.get("CXX", "c++")
 WARN = ["-O1", "-g", "-Wall", "-Wextra", "-Werror", "-pedantic", f"-I{ROOT / 'libfv/include'}"]
 SANITIZED = {"ASAN_OPTIONS": "detect_leaks=0:allocator_may_return_null=1", "UBSAN_OPTIONS": "halt_on_error=1"}
-PLANTS = range(1, 33)
+PLANTS = range(1, 40)
 LONG = 4_000_000  # bytes; longer made inputs are not shown to the examples
 
 
@@ -76,7 +76,7 @@ class Calls(Compiled):
         program = self.build("threads", HERE / "threads.c", "-pthread", *options, compiler=compiler)
         for name, data in ("empty", rows.spelled("empty")), ("nested", making.IMAGES["nested.fv"]()[:20000]):
             (self.room / name).write_bytes(data)
-            text = f"threads: 4 of {turns} turns each, with 26 calls, 0 wrong"
+            text = f"threads: 4 of {turns} turns each, with 31 calls, 0 wrong"
             self.expect(0, text, program, self.room / name, str(turns))
 
     def test_threads(self) -> None:

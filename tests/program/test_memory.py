@@ -46,6 +46,7 @@ RUNS = [
     *((WANT, f"{command} volume") for command in (*WHOLE, f"{EXTRACT} --section 19")),
     *((WANT, command) for command in ("scan both", "check depex", "check --all both")),
     *((SIDES, f"compare {names}") for names in ("volume depex", "volume volume", "first second", "first first")),
+    *((SIDES, f"same {names}") for names in ("first second", "parts packed")),
     *((OPENS, f"open {words}") for words in ("packed", "--section 0.1 parts")),
     *((HOBS, f"hobs {words}list") for words in ("", "--image volume --base 16711680 ")),
 ]
@@ -146,17 +147,19 @@ class Commands(MemoryCase):
     def test_survey(self) -> None:
         """A survey whose memory runs out has written its first lines, or the line of a fault if its input was not read.
         It has no last line, and standard error says that lines are missing."""
-        for name in ("both", "parts"):
-            whole = self.outcome(0, PROGRAM, "survey", name)
-            self.assertTrue(whole.output.rpartition("\nsums ")[2].endswith(" findings 0 fixed 0\n"), whole.output)
+        sums, counts = "sums .* findings 0 fixed 0", r"opened \d closed 0"
+        for command, last in (("both", sums), ("parts", sums), ("--open both", counts), ("--open parts", counts)):
+            words = ("survey", *command.split())
+            whole = self.outcome(0, PROGRAM, *words)
+            self.assertRegex(whole.output, rf"\n{last}\n\Z")
             for at in itertools.count(1):
-                done = self.outcome(at, PROGRAM, "survey", name)
+                done = self.outcome(at, PROGRAM, *words)
                 if not done.is_refused:
                     break
-                self.assertEqual(done.status, 2, f"{name}: allocation {at} refused")
+                self.assertEqual(done.status, 2, f"{command}: allocation {at} refused")
                 if done.output != "fault 24 at 0\n":
                     self.assertIn("output has only the first lines", done.errors)
-                    self.assertIn(done.output, front_of(whole.output), f"{name}: allocation {at} refused")
+                    self.assertIn(done.output, front_of(whole.output), f"{command}: allocation {at} refused")
             self.assertGreater(at, 1, "no allocation was refused")
 
     def test_small_files(self) -> None:

@@ -30,11 +30,13 @@ from tests.checks import ROOT, read
 from tests.frame import PROGRAM, needs_program
 
 # The number of rows in all files, and the files, by their names and headings.
-ROWS = 1492
+ROWS = 1527
 FILES = {path.stem: rows.tables(path.stem) for path in sorted(rows.FOLDER.glob("*.rows"))}
 # The files whose rows describe runs of a command.
 RUNS = ["normalise", "extract", "extract_open", "scan", "survey", "hobs", "list", "list_open", "sums", "check", "cells", "unfix", "open"]
-RUNS += ["compare", "placed", "text"]
+RUNS += ["compare", "same", "placed", "text"]
+# The commands with two inputs, which have no standard input.
+PAIRS = ("compare", "same")
 # The files of the crate's tests that have rows.
 TESTS = ["volumes", "command/other_runs", "command/opened_runs"]
 NAME = "0a0a0a0a-0a0a-0a0a-0a0a-0a0a0a0a0a0a"
@@ -103,7 +105,7 @@ def arguments(command: str, is_hex: bool, first: str | None) -> list[str]:
     standard input if there is none. Its second input is the file `second`."""
     name, *words = command.split()
     found = [*name.replace("-", " --").split(), *options(name, words), *["--hex"] * is_hex]
-    return found + [it for it in (first, "second" if name == "compare" else None) if it]
+    return found + [it for it in (first, "second" if name in PAIRS else None) if it]
 
 
 def runs_of(row: str, look: Look = bytes) -> Iterator[Run]:
@@ -119,7 +121,7 @@ def runs_of(row: str, look: Look = bytes) -> Iterator[Run]:
         output = look(output_of(text, is_hex))
         files = {"first": given, "second": other}
         yield Run(label, arguments(command, is_hex, "first"), int(status), output, b"", files, look)
-        if command.split()[0] != "compare":
+        if command.split()[0] not in PAIRS:
             yield Run(label, arguments(command, is_hex, None), int(status), output, given, {"second": other}, look)
 
 

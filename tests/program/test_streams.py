@@ -165,6 +165,7 @@ WRONG: list[tuple[list[str], str]] = [
     (["\x1b[31m"], r"unknown command '\u{1b}[31m'"),
     (["compare", "--other-at", "0x", "a", "b"], "invalid value '0x' for '--other-at'"),
     (["compare", "a"], "two files are needed"),
+    (["same", "a"], "two files are needed"),
     (["extract"], "'--name' is missing"),
     (["extract", "--name", "a"], "invalid value 'a' for '--name'"),
     (["extract", "--name", GUID, "--section", "0x10"], "invalid value '0x10' for '--section'"),

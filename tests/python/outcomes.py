@@ -19,9 +19,11 @@ OF_VOLUME: tuple[Call, ...] = (
     *(fv.volume_is_canonical, fv.volume_normalise, fv.volume_unfix, fv.volume_digest, fv.volume_cells),
     *(fv.volume_tree, fv.volume_tree_digests),
 )
-OF_SECTIONS: tuple[Call, ...] = (fv.sections_tree, fv.sections_tree_digests)
+OF_SECTIONS: tuple[Call, ...] = (fv.sections_tree, fv.sections_tree_digests, fv.sections_survey)
 OF_SECTION: tuple[Call, ...] = (fv.section_way, fv.section_open)
-OF_IMAGE: tuple[Call, ...] = (fv.image_scan, fv.image_check, fv.image_normalise, fv.image_survey)
+OF_IMAGE: tuple[Call, ...] = (
+    *(fv.image_scan, fv.image_check, fv.image_normalise, fv.image_survey, fv.variables_read, fv.signatures_read),
+)  # fmt: skip
 
 
 def outcome(call: Call, *arguments: Any, **named: Any) -> Any:

@@ -47,6 +47,11 @@ def inner_text(fault: fv.Fault) -> str:
     return f"fault {fault.number} at +{fault.offset}"
 
 
+def way_text(way: fv.Way, length: int) -> str:
+    """Returns the text that the program writes for the way that gave some contents, and for their length."""
+    return f"{way.name.lower().replace('_', '-')} {length}" + " not verified" * (way is fv.Way.SIGNED)
+
+
 def caught(make: Callable[[bytes], Said], data: bytes, before: str = "") -> Said:
     """Returns what a command writes about some data, or the status and the line of its fault."""
     try:
@@ -180,8 +185,8 @@ class Opening:
             self.left = max(self.left - FAILURE_PRICE * (found.number in DECODED), 0)
             self.say(f"not opened: section {inner_text(found)}")
             return
-        length, way = len(found.contents), found.way.name.lower().replace("_", "-")
-        self.lines[-1] += f" {way} {length}" + " not verified" * (found.way is fv.Way.SIGNED)
+        length = len(found.contents)
+        self.lines[-1] += f" {way_text(found.way, length)}"
         self.left = max(self.left - max(length, LEAST_PRICE), 0)
         nodes = outcome(fv.sections_tree, found.contents)
         if isinstance(nodes, fv.Fault):
@@ -251,16 +256,52 @@ def row_text(row: fv.SurveyRow) -> str:
     return f"{'  ' * row.depth}{kind} at {row.offset} length {row.length}{about.get(kind, '')}{findings}"
 
 
-def survey(data: bytes) -> Said:
-    """Makes the output of `survey`."""
-    rows, lengths = fv.image_survey(data), collections.Counter[str]()
+def survey_lines(rows: Sequence[fv.SurveyRow], size: int) -> tuple[int, list[str]]:
+    """Returns the lines for some rows of a survey, which account for this many bytes, and the exit status."""
+    lengths = collections.Counter[str]()
     for row in rows:
         lengths[(OUTER + LEAVES)[row.kind - 1]] += row.length
     found = [[int(it) for it in row.findings] for row in rows if row.findings]
     others = sum(it != [FIXED] for it in found)
     sums = "".join(f" {it} {lengths[it]}" for it in LEAVES if lengths[it])
-    last = f"sums{sums} all {len(data)} findings {others} fixed {len(found) - others}"
-    return int(others > 0 or lengths["unread"] > 0), text([*map(row_text, rows), last])
+    last = f"sums{sums} all {size} findings {others} fixed {len(found) - others}"
+    return int(others > 0 or lengths["unread"] > 0), [*map(row_text, rows), last]
+
+
+def survey(data: bytes) -> Said:
+    """Makes the output of `survey`."""
+    status, lines = survey_lines(fv.image_survey(data), len(data))
+    return status, text(lines)
+
+
+def place_text(section: fv.PackedSection) -> str:
+    """Returns where a packed section is."""
+    return f"in {section.source} at {section.offset} length {section.length}"
+
+
+def source_line(number: int, section: fv.PackedSection) -> str:
+    """Returns the line of the source with this number, which is the contents of this section."""
+    assert section.way is not None and section.contents_length is not None
+    return f"source {number} {place_text(section)} {way_text(section.way, section.contents_length)}"
+
+
+def closed_line(section: fv.PackedSection) -> str:
+    """Returns the line of a section that is not opened."""
+    fault = f"section {inner_text(section.fault)}" if section.fault else ""
+    why = {fv.Reason.DEPTH: "nested too deep", fv.Reason.LIMIT: "total limit reached"}
+    return f"closed {place_text(section)} not opened: {fault or why[section.reason or fv.Reason.LIMIT]}"
+
+
+def survey_opened(data: bytes) -> Said:
+    """Makes the output of `survey --open`."""
+    with fv.image_open(data) as image:
+        worst, lines = int(len(image.closed) > 0), list[str]()
+        for number, source in enumerate(image.sources):
+            status, own = survey_lines(source.rows, len(source.bytes))
+            lines += [*(source_line(number, it) for it in [source.packed] if it), *own]
+            worst = max(worst, status)
+        lines += map(closed_line, image.closed)
+        return worst, text([*lines, f"opened {len(image.sources) - 1} closed {len(image.closed)}"])
 
 
 # The commands with one input, except `extract`.
@@ -272,6 +313,7 @@ COMMANDS: dict[str, Callable[[bytes], Said]] = {
     "check --all": check_all,
     "scan": lambda data: (0, text([f"volume at {it.offset} length {it.length}" for it in fv.image_scan(data)])),
     "survey": survey,
+    "survey --open": survey_opened,
     "cells": cells,
     "hobs": hobs,
     "list": listed,

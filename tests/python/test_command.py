@@ -15,7 +15,7 @@ import fv
 import rows
 from tests import making
 from tests.frame import RoomCase, needs_library
-from tests.python.outcomes import outcome
+from tests.python.outcomes import closed, outcome, packings, volume_of
 
 Line = dict[str, Any]
 COMMAND = (sys.executable, "-B", "-m", "fv")
@@ -135,6 +135,25 @@ class Lines(RoomCase):
                 words = [f"{'  ' * it.depth}{it.kind.name.lower()} offset {it.offset} length {it.length}" for it in found]
                 self.assertEqual([line[: len(it)] for line, it in zip(text, words)], words)
                 self.assertEqual(len(text), len(words))
+
+    def test_open(self) -> None:
+        packed = {it.way.name: volume_of(it.section) for it in packings()}
+        damaged = [volume_of(section) for section, _, _ in closed()[2:]]
+        for name, data in {**FILES, **packed, **{f"damaged {i}": it for i, it in enumerate(damaged)}}.items():
+            (self.room / name).write_bytes(data)
+            with self.subTest(name), fv.image_open(data) as image:
+                rows_of_all = [(it.number, row) for it in image.sources for row in it.rows]
+                said = [*map(json.loads, self.runs(0, *COMMAND, "open", name, "--json").splitlines())]
+                wanted = [{"source": source, **fields_of(row)} for source, row in rows_of_all]
+                self.assertEqual(said[: len(wanted)], wanted)
+                names = ("source", "offset", "length", "depth", "reason")
+                places = [tuple(json_of(getattr(it, name)) for name in names) for it in image.closed]
+                names = (*names[:-1], "closed")
+                self.assertEqual([tuple(it[name] for name in names) for it in said[len(wanted) :]], places)
+                text = self.runs(0, *COMMAND, "open", name).splitlines()
+                starts = [f"source {source} {'  ' * it.depth}{it.kind.name.lower()} offset" for source, it in rows_of_all]
+                self.assertEqual([line[: len(it)] for line, it in zip(text, starts)], starts)
+                self.assertEqual(len(text), len(said))
 
     def test_survey_text(self) -> None:
         data = bytearray(FILES["depex"])

@@ -12,9 +12,9 @@ from pathlib import Path
 
 import fv
 from fv import images
-from fv.limits import Budget, Full, Limits
+from fv.limits import Full, Limits
 from fv.names import Names
-from fv.opened import Closed, Way, open_section
+from fv.opened import Way
 from tests import making as made
 from tests.frame import needs_firmware, needs_library
 from tests.python.outcomes import CONTENTS, SIGNED, packings
@@ -107,7 +107,9 @@ class Images(unittest.TestCase):
         self.assertTrue(all(len(it.fixed) == 1 for it in many))
         self.assertEqual(len({id(it.data) for it in many}), 1)
         (volume,) = images.read(made.IMAGES["damaged.fd"]()).volumes[:1]
-        self.assertEqual((str(volume.fault), volume.files, volume.guid), ("fault 11 at 4168", [], None))
+        names = [(it.name, it.findings) for it in volume.files]
+        self.assertEqual(names, [("", (fv.FaultCode.FILE_HEADER_SUM,)), ("Alpha", ())])
+        self.assertEqual((str(volume.fault), volume.findings, volume.guid), ("fault 11 at 4168", (), None))
         (volume,) = images.read(made.IMAGES["fixed-inside.fv"]()).volumes
         inner = volume.files[0].sections[0].volume
         self.assertIsNone(volume.fault)
@@ -134,40 +136,68 @@ class Images(unittest.TestCase):
         self.assertEqual(unread, [("capsule header", True, 0, 28)])
 
     def test_headers(self) -> None:
-        # Reports each volume that is not read: beside a volume, in a pad, a raw file, a section or a rejected volume.
-        other = made.volume([made.A])
+        # Reads volumes whose headers break rules, with their findings. A variable store is bytes that are not read.
+        other, before = made.volume([made.A]), made.volume([made.B])
         one = changed(other, 50, other[50] ^ 1)
         ffs1 = uuid.UUID("7a9354d9-0468-444a-81ce-0bf617d890df").bytes_le
         store = uuid.UUID("fff12b8d-7696-4c8b-a985-2747075b4f50").bytes_le
-        for data, what, reason in (
-            (one, "volume", "fault 6 at 32768"),
-            (changed(other, 55, 1), "volume of revision 1", "fault 4 at 32823"),
-            (changed(other, 16, *ffs1), "FFS1 volume", "fault 3 at 32784"),
-            (changed(other, 16, *store), "variable store", "fault 3 at 32784"),
-            (other[:0x4000], "volume", "fault 1 at 49152"),
+        for data, fault, codes, system in (
+            (one, "fault 6 at 32768", [6], "FFS2"),
+            (changed(other, 55, 1), "fault 4 at 32823", [4, 6], "FFS2"),
+            (changed(other, 16, *ffs1), "fault 3 at 32784", [3, 6], "FFS1 volume"),
+            (other[:0x4000], "fault 1 at 49152", [1], "FFS2"),
         ):
-            gap, header = unread_in(made.volume([made.B]) + data)
-            self.assertEqual((gap, header[0]), (("", "it is in no volume"), what))
-            self.assertTrue(header[1].startswith(reason), header)
-        inner = made.volume([made.A], 0x2000)
-        unread = "it is in bytes that are not read as volumes"
+            image = images.read(before + data)
+            volume = image.volumes[1]
+            self.assertEqual((str(volume.fault), [*volume.findings], volume.type_name), (fault, codes, system))
+            self.assertEqual([it.name for it in volume.files], ["Alpha"])
+            self.assertEqual((len(image.volumes), image.headed, image.unread), (2, image.volumes[:1], []))
+            self.assertEqual(b"".join(it.body for it in image.others), data)
+        found = unread_in(before + changed(other, 16, *store))
+        self.assertEqual([(what, reason[:17]) for what, reason in found], [("variable store", "fault 3 at 32784:")])
+
+    def test_found(self) -> None:
+        # Finds volumes in a pad, a raw file, a section, a file that was deleted and a volume that is rejected.
+        inner, names = made.volume([made.A], 0x2000), ["Beta", "Alpha"]
+        raw, other = made.section(made.RAW, inner), made.section(made.VOLUME, inner + b"\xff")
         for holder in (
             made.file(made.guid(6), inner),
-            made.file(made.guid(6), made.section(made.RAW, inner), made.FREEFORM),
-            made.file(made.guid(6), made.section(made.VOLUME, inner + b"\xff"), made.VOLUME_IMAGE),
+            made.file(made.guid(6), raw, made.FREEFORM),
+            made.file(made.guid(6), other, made.VOLUME_IMAGE),
+            made.pad(bytes(8) + inner),
+            made.deleted(made.guid(6), inner),
+            made.file(made.guid(6), made.checked(raw, 1), made.FREEFORM),
+            made.file(made.guid(6), made.guided(made.UNKNOWN, inner), made.FREEFORM),
+            made.file(made.guid(6), made.section(made.GROUP, made.stream(raw, b"no section")), made.FREEFORM),
         ):
-            self.assertEqual(unread_in(made.volume([made.B, holder])), [("volume", unread)])
-        held = [("pad", "a pad holds bytes"), ("volume", unread)]
+            image = images.read(made.volume([made.B, holder]))
+            self.assertEqual([file.name for _, file in images.files_in(image) if file.name], names)
+            self.assertEqual(image.volumes[0].fault is None, holder[27] != made.GROUP)
+        held = [("pad", "a pad holds bytes")]
         self.assertEqual(unread_in(made.volume([made.B, made.pad(bytes(8) + inner)])), held)
         wrong = made.file(made.guid(4), made.noise("d", 777))
-        found = unread_in(made.volume([changed(wrong, 16, wrong[16] ^ 1), made.NESTED]))
-        self.assertEqual(found, [("volume", "it is in a volume that is rejected")])
-        for content, count in ((made.section(made.RAW, inner), 1), (made.section(made.VOLUME, inner), 0)):
-            packed = made.checked(made.stream(made.ui("Own"), content), 1)
-            (volume,) = images.read(holding(packed)).volumes
-            opened = volume.files[0].sections[0].opened
-            parts = opened and [(it.what, it.reason) for it in opened.unread]
-            self.assertEqual((parts, volume.unread), ([("volume", unread)] * count, []))
+        image = images.read(made.volume([changed(wrong, 16, wrong[16] ^ 1), made.NESTED]))
+        self.assertEqual([(volume.fault is None, file.name) for volume, file in images.files_in(image)],
+                         [(False, ""), (False, ""), (True, "Alpha"), (True, "Beta")])
+        code = made.section(made.PE32, bytes(100) + made.header(0x1000) + bytes(100))
+        (volume,) = images.read(holding(code)).volumes
+        self.assertEqual((volume.inner, volume.fault), ([], None))
+        (volume,) = images.read(holding(made.section(made.PE32, bytes(100) + inner))).volumes
+        self.assertEqual([it.offset for it in volume.inner], [200])
+
+    def test_lost(self) -> None:
+        # Reports the bytes of a volume that are lost, with the finding. What follows them is read.
+        lost, end = b"lost bytes" * 40, made.section(made.RAW, b"")[:2] + b"tail of the sections"
+        size = "finding 19: the size of a section is wrong"
+        for files, unread, reason in (
+            ([made.A, lost, made.B], 1, "finding 10: "),
+            ([made.file(made.guid(6), made.ui("Text\0\0") + end, made.FREEFORM), made.B], 1, size),
+        ):
+            image = images.read(made.volume(files))
+            (volume,) = image.volumes
+            parts = [it for part in (volume, *volume.files) for it in part.unread]
+            self.assertEqual([(it.what, it.reason[: len(reason)]) for it in parts], [("lost bytes", reason)] * unread)
+            self.assertEqual([file.name for file in volume.files][-1], "Beta")
 
     def test_remains(self) -> None:
         # Reports pads that hold bytes, filler, sections in files of unknown types, and bytes beside the volumes.
@@ -239,30 +269,24 @@ class Images(unittest.TestCase):
             self.assertEqual(opened and opened.data, CONTENTS)
             self.assertEqual(opened and opened.way.folder, names.get(it.way, it.way.name.lower()))
         later = fv.Opened(CONTENTS, 99)  # type: ignore[arg-type]
-        with unittest.mock.patch("fv.opened.section_open", lambda *_: later):
-            (file,) = images.read(holding(made.guided(made.UNKNOWN, b"", 0))).volumes[0].files
-        way = file.sections[0].opened and file.sections[0].opened.way
-        self.assertEqual((file.name, way), ("Packed", Way("way 99", "opened")))
+        with unittest.mock.patch("fv.images.section_open", lambda *_: later):
+            (section,) = images.read_sections(made.guided(made.UNKNOWN, b"", 0)).sections
+        way = section.opened and section.opened.way
+        self.assertEqual((images.first_text([section], made.UI), way), ("Packed", Way("way 99", "opened")))
 
     def test_sections(self) -> None:
-        # Opens a section with a short or a long header, whose data begin anywhere, up to the limits.
+        # Opens a section with a short or a long header, whose data begin anywhere.
         zeros = lzma.compress(bytes(5000), format=lzma.FORMAT_ALONE)
 
-        def opened(header: int, offset: int, extra: int = 0, **limits: int) -> str:
+        def opened(header: int, offset: int, extra: int = 0) -> str:
             data = made.LZMA.bytes_le + struct.pack("<HH", offset, 1) + bytes(extra) + zeros
-            size = header + len(data)
-            head = struct.pack("<I", size | made.GUIDED << 24) if header == 4 else struct.pack("<II", 0x2FFFFFF, size)
-            try:
-                found = open_section(memoryview(head + data), header, Budget(Limits(**limits), 0))
-                return f"{found.way.name} {len(found.contents)}"
-            except (Closed, Full) as reason:
-                return str(reason)
+            head = made.section_head(made.GUIDED, header + len(data), header == 8)
+            section = images.read_sections(head + data).sections[0]
+            return section.closed or f"{section.opened and section.opened.way.name} {len((section.opened or section).data)}"
 
         self.assertEqual([opened(4, 24), opened(8, 28), opened(4, 31, 7)], ["LZMA 5000"] * 3)
         short = "section fault 1 at 20: the section is cut short"
-        found = [opened(4, 23), opened(4, 300), opened(4, 24, section=4999)]
-        self.assertEqual(found, [short, short, "LZMA: more than 4999 bytes"])
-        self.assertEqual([opened(4, 24, total=4999), opened(4, 24, sections=0)], ["4999 bytes", "0 sections"])
+        self.assertEqual([opened(4, 23), opened(4, 300)], [short, short])
 
     @needs_firmware("ovmf")
     def test_beside_liblzma(self) -> None:
@@ -285,45 +309,36 @@ class Images(unittest.TestCase):
     def test_limits(self) -> None:
         # Does not open a section that exceeds a limit, or does not read the image at all.
         data = made.firmware()
-        self.assertEqual(names_of(data, Limits(sections=0)), [])
+        self.assertEqual(names_of(data, Limits(least=0, times=0)), [])
         for limits, reason in (
-            (Limits(sections=0), "more than 0 sections"),
-            (Limits(depth=0), "too deep"),
-            (Limits(section=1000), "LZMA: more than 1000 bytes"),
+            (Limits(least=0, times=0), f"more than {len(data)} bytes"),
             (Limits(total=len(data) + 100), f"more than {len(data) + 100} bytes"),
             (Limits(parts=20), "more than 20 parts"),
         ):
             self.assertEqual(closed_in(data, limits)[0], reason)
-        heads = made.SMALL[:72] * 20
-        for data, limits in (
-            (data, Limits(total=len(data) - 1)),
-            (data, Limits(parts=2)),
-            (heads, Limits(signatures=19)),
-            (heads, Limits(header_bytes=72 * 19)),
-        ):
+        for limits in (Limits(total=len(data) - 1), Limits(parts=2)):
             self.assertRaises(Full, images.read, data, limits)
+        deep = made.stream(made.ui("Deep"))
+        for _ in range(9):
+            deep = made.stream(made.compression(deep))
+        self.assertEqual(closed_in(holding(deep)), ["too deep"])
 
     def test_waste(self) -> None:
-        # Counts what is unpacked but not kept: sections with too many parts, and the limit for each section that is cut
-        # short, unless its header promises less. A header that promises too much costs nothing.
+        # Limits the work for sections that are damaged, too long, or have too many parts.
         whole = lzma.compress(bytes(5 << 20), format=lzma.FORMAT_ALONE)
-        full, cut, short, long, maybe = (
+        full, cut, long = (
             made.compressed(made.section(made.RAW, b"") * 60),
             made.guided(made.LZMA, whole[:700]),
-            made.guided(made.LZMA, whole[:5] + (5 << 20).to_bytes(8, "little") + whole[13:700]),
             made.guided(made.LZMA, whole[:5] + (1 << 40).to_bytes(8, "little") + whole[13:700]),
-            made.compression(b"four" + whole, 5 << 20, 2),
         )
         for packed, limits, count, reason in (
-            (full, Limits(parts=60), 37, "more than 60 parts"),
-            (cut, Limits(section=6 << 20, wasted=10 << 20), 2, f"LZMA: {DAMAGED.format(724)}"),
-            (short, Limits(wasted=41 << 20), 4, f"LZMA: {DAMAGED.format(724)}"),
-            (long, Limits(wasted=1), 40, "LZMA: more than 268435456 bytes"),
-            (maybe, Limits(wasted=20 << 20, total=1 << 30), 4, ""),
+            (full, Limits(parts=60), 40, "more than 60 parts"),
+            (cut, Limits(least=40 << 20, times=0), 3, f"LZMA: {DAMAGED.format(724)}"),
+            (long, Limits(least=40 << 20, times=0), 3, "LZMA: more than 268435456 bytes"),
         ):
-            no_more = f"more than {limits.wasted} bytes that are not kept"
-            found = closed_in(holding(*[packed] * 40) + bytes(8 << 20), limits)
-            self.assertEqual(found, [reason] * count * bool(reason) + [no_more] * (40 - count), found)
+            image = holding(*[packed] * 40)
+            found, no_more = closed_in(image, limits), f"more than {len(image) + (40 << 20)} bytes"
+            self.assertEqual(found, [reason] * count + [no_more] * (40 - count), found)
 
     def test_tiano(self) -> None:
         # Opens the compression of the UEFI specification and of Tiano. Data that have neither are not opened.
@@ -362,7 +377,7 @@ class Images(unittest.TestCase):
             self.assertEqual(opened and opened.doubts, doubts)
         self.assertEqual(closed_in(holding(made.guided(made.BROTLI, b""))), ["Brotli: the data are cut short"])
         bomb = brotli_file(brotli.compress(bytes(1 << 24)), 1 << 24)
-        self.assertEqual(closed_in(bomb, Limits(section=1 << 20)), [f"Brotli: more than {1 << 20} bytes"])
+        self.assertEqual(closed_in(bomb, Limits(least=1 << 20, times=0)), [f"more than {len(bomb) + (1 << 20)} bytes"])
 
     def test_names(self) -> None:
         # Shows a dependency expression with the names of its GUIDs.

@@ -31,10 +31,11 @@ from typing import Any
 import fv
 import rows
 from fv import _errors, _library, _native, names
+from tests import making, stores
 from tests.checks import ROOT, read
 from tests.frame import RoomCase, needs_library, needs_tool
 from tests.python.outcomes import CONTENTS, OF_IMAGE, OF_SECTION, OF_SECTIONS, OF_VOLUME, Call, grouped, outcome
-from tests.python.outcomes import packings, raised, volume_of
+from tests.python.outcomes import closed, packings, raised, volume_of
 
 PACKAGE = Path(fv.__file__).parent
 HEADER = read(ROOT / "libfv/include/fv.h")
@@ -71,6 +72,88 @@ def constants(prefix: str) -> dict[str, int]:
     return {name: int(number, 0) for name, number in re.findall(rf"\bFV_{prefix}_(\w+) = (\w+)", HEADER)}
 
 
+def nested(times: int) -> bytes:
+    """Returns a stream of sections in a packed section, which is in a packed section, and so on, this many times."""
+    stream = SECTION
+    for _ in range(times):
+        stream = making.compression(stream)
+    return stream
+
+
+@needs_library
+class Images(unittest.TestCase):
+    """Images that are open at every level."""
+
+    def test_packed(self) -> None:
+        for it in packings():
+            data = volume_of(it.section)
+            with fv.image_open(data) as image:
+                first, second = image.sources
+                self.assertEqual((first.number, first.depth, first.packed, image.closed), (0, 0, None, []))
+                self.assertEqual((first.bytes, first.rows), (data, fv.image_survey(data)))
+                contents = fv.section_open(it.section).contents
+                at, length = data.index(it.section), len(it.section)
+                packed = fv.PackedSection(0, at, length, 0, it.way, len(contents), None, None)
+                self.assertEqual((second.number, second.depth, second.packed), (1, 1, packed))
+                self.assertEqual((second.bytes, second.rows), (contents, fv.sections_survey(contents)))
+            self.assertTrue(is_frozen(second) and is_frozen(packed))
+
+    def test_closed(self) -> None:
+        why = fv.Reason
+        for section, code, offset in closed()[2:]:
+            if section[3] in (fv.SectionType.COMPRESSION, fv.SectionType.GUID_DEFINED):
+                data = volume_of(section)
+                place = 0, data.index(section), len(section), 0
+                image = fv.image_open(data)
+                self.assertEqual(len(image.sources), 1)
+                wanted = fv.PackedSection(*place, None, None, why.FAULT, fv.Fault(code, offset))
+                self.assertEqual(image.closed, [wanted])
+        data = volume_of(nested(1))
+        (row,) = fv.image_open(data, 0).closed
+        self.assertEqual((row.reason, row.fault, row.way, row.contents_length), (why.LIMIT, None, None, None))
+        self.assertEqual([fv.image_open(data, it).closed for it in (5, None, 2**70)], [[]] * 3)
+        self.assertEqual(fv.image_open(data, 4).closed[0].fault, fv.Fault(fv.FaultCode.OPEN_TOO_LONG, 9))
+        self.assertIsInstance(raised(fv.image_open, data, -1), ValueError)
+
+    def test_levels(self) -> None:
+        image = fv.image_open(volume_of(nested(9)))
+        self.assertEqual([it.depth for it in image.sources], [*range(9)])
+        self.assertEqual([it.packed.source for it in image.sources if it.packed], [*range(8)])
+        (row,) = image.closed
+        self.assertEqual((row.source, row.depth, row.reason), (8, 8, fv.Reason.DEPTH))
+        self.assertEqual(bytes(fv.image_open(nested(0) + volume_of(nested(8))).sources[-1].bytes), SECTION)
+
+    def test_lent(self) -> None:
+        # What an image has lent can be used after it is closed, and nothing can write to it.
+        image = fv.image_open(volume_of(nested(1)))
+        source = image.sources[1]
+        wanted = [fv.sections_survey(SECTION), SECTION]
+        image.close()
+        image.close()
+        for name in ("sources", "closed", "__enter__"):
+            self.assertIsInstance(raised(lambda: getattr(image, name)()), ValueError)  # noqa: B023
+        del image
+        self.assertEqual([source.rows, source.bytes], wanted)
+        self.assertEqual([*again(source.rows)], [wanted[0]] * 3)
+        self.assertTrue(source.bytes.readonly and source.bytes.format == "B")
+
+    def test_buffer(self) -> None:
+        # A buffer that is read in place is held as long as anything refers to it.
+        data = bytearray(volume_of(nested(1)))
+        image = fv.image_open(data, copy=False)
+        views = [it.bytes for it in image.sources]
+        image.close()
+        self.assertIsInstance(raised(data.append, 0), BufferError)
+        self.assertEqual(views[0], data)
+        del views
+        data.append(0)
+        with fv.image_open(data) as copied:
+            data[:] = bytes(len(data))
+            self.assertNotEqual(copied.sources[0].bytes, data)
+        for empty in (b"", bytearray()):
+            self.assertEqual([(len(it.bytes), it.rows) for it in fv.image_open(empty, copy=False).sources], [(0, [])])
+
+
 @needs_library
 class Names(unittest.TestCase):
     """The names and numbers of the package, beside the names and numbers of fv.h and docs/FAULTS.md."""
@@ -78,17 +161,21 @@ class Names(unittest.TestCase):
     def test_calls(self) -> None:
         declared = re.findall(r"\bFV_(?:API|CHECKED)_ [^;]*?\b(fv_\w+)\(", HEADER)
         named = [it for it in declared if not it.startswith("fv_guid_")]  # the module uuid has the same
-        self.assertEqual((len(declared), sorted(named)), (29, sorted(_native.CALLS)))
-        functions = {it.removeprefix("fv_").removesuffix("_with") for it in named}  # _with: an argument `without_marks`
+        self.assertEqual((len(declared), sorted(named)), (39, sorted(_native.CALLS)))
+        # An Image makes the calls that take a handle. An argument `without_marks` is in place of the calls _with.
+        of_handle = {"fv_image_close", *re.findall(r"\b(fv_\w+)\(const fv_image \*", HEADER)}
+        functions = {it.removeprefix("fv_").removesuffix("_with") for it in {*named} - of_handle}
         public = set(fv.__all__) - functions
         self.assertEqual(len(public), len(fv.__all__) - len(functions))
-        self.assertTrue(all(isinstance(getattr(fv, it), type) for it in public - {"Buffer", "LENGTH_MAX"}))
-        self.assertEqual((fv.LENGTH_MAX, fv.version_number() >> 16, fv.version()[:2]), (2**28, 2, "2."))
+        self.assertTrue(all(isinstance(getattr(fv, it), type) for it in public - {"Buffer", "CONTENTS_MAX", "LENGTH_MAX"}))
+        self.assertEqual((fv.CONTENTS_MAX, fv.LENGTH_MAX), (2**30, 2**28))
+        self.assertEqual((fv.version_number() >> 16, fv.version()[:2]), (2, "2."))
         self.assertEqual(re.sub(r"[.-]?dev\d*$", "", fv.__version__), re.sub(r"-dev$", "", fv.version()))
 
     def test_types(self) -> None:
         self.assertEqual(constants("FILE"), {it.name: it for it in fv.FileType})
         self.assertEqual(constants("SECTION"), {it.name: it for it in fv.SectionType})
+        self.assertEqual(constants("REASON"), {it.name: it for it in fv.Reason})
         self.assertEqual({*fv.FileType}, {*names.FILES, fv.FileType.FFS_PAD})
         self.assertEqual(({*fv.SectionType}, len(fv.SectionType) >= 15), ({*names.SECTIONS}, True))
 
@@ -338,6 +425,38 @@ class Values(unittest.TestCase):
         rows_of_cut = [(it.kind, it.depth, it.offset, it.length) for it in fv.image_survey(rows.spelled("empty")[:80])]
         self.assertEqual(rows_of_cut, [(kind.VOLUME, 0, 0, 80), (kind.VOLUME_HEADER, 1, 0, 72), (kind.FREE, 1, 72, 8)])
         self.assertEqual(fv.image_survey(rows.spelled("empty")[:80])[0].findings, (code.TRUNCATED,))
+
+    def test_variables(self) -> None:
+        kind, vendor = fv.PartKind, stores.GLOBAL
+        plain = stores.store(stores.variable("A", b"xyz"), length=0x80)
+        store, variable, filler, free = fv.variables_read(plain)
+        self.assertEqual((store.format, store.size, store.state, store.formatted), (fv.StoreFormat.PLAIN, 128, 0xFE, 0x5A))
+        self.assertEqual((variable.offset, variable.length, variable.name_offset, variable.data_offset), (28, 39, 60, 64))
+        self.assertEqual((variable.status, variable.attributes, variable.guid), (fv.VariableStatus.ADDED, 7, vendor))
+        self.assertEqual((variable.monotonic_count, variable.time_stamp, variable.public_key), (None, None, None))
+        self.assertEqual((filler.part, filler.length, free.part, free.offset), (kind.FILLER, 1, kind.FREE, 68))
+        self.assertEqual((filler.state, filler.guid, filler.size, filler.finding), (None, None, None, None))
+        secure = stores.store(stores.variable("A", b"", fields=stores.FIELDS), kind=stores.AUTHENTICATED)
+        variable = fv.variables_read(secure)[1]
+        self.assertEqual((variable.header_length, variable.monotonic_count, variable.public_key), (60, 7, 3))
+        self.assertEqual(variable.time_stamp, stores.FIELDS[8:24])
+        found = fv.signatures_read(stores.signature_list(stores.X509, vendor, b"data", b"more") + b"?")
+        self.assertEqual([it.part for it in found], [kind.LIST_HEADER, kind.SIGNATURE, kind.SIGNATURE, kind.UNREAD])
+        self.assertEqual((found[0].guid, found[0].size, found[0].data_size), (stores.X509, 68, 20))
+        self.assertEqual((found[2].guid, found[2].offset, found[3].finding), (vendor, 48, fv.Finding.LIST_SIZE))
+        self.assertTrue(is_frozen(variable) and copy.copy(variable) == variable)
+        for call in (fv.variables_read, fv.signatures_read):
+            rows_of_bytes = call(bytes(range(256)) * 9)
+            self.assertEqual([(it.part, it.offset, it.length) for it in rows_of_bytes], [(kind.UNREAD, 0, 2304)])
+
+    def test_survey_of_sections(self) -> None:
+        kind = fv.RowKind
+        found = fv.sections_survey(SECTION + b"\0\0\0" + SECTION)
+        rows_of_stream = [(it.kind, it.depth, it.offset, it.length) for it in found]
+        section = [(kind.SECTION, 0, 0, 5), (kind.SECTION_HEADER, 1, 0, 4), (kind.BODY, 1, 4, 1)]
+        later = [(it, depth, at + 8, length) for it, depth, at, length in section]
+        self.assertEqual(rows_of_stream, [*section, (kind.FILLER, 0, 5, 3), *later])
+        self.assertEqual((fv.sections_survey(b""), fv.sections_survey(b"\1\2\3")[0].offset), ([], 0))
 
     def test_many_rows(self) -> None:
         # A call returns all rows, whatever room its first buffer has.

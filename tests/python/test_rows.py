@@ -25,8 +25,9 @@ from tests.python import said
 from tests.python.outcomes import CONTENTS, Call, closed, made, outcome, packings, place, streams
 
 NO_ROOM, TOP_ALIGNMENT = 22, 23
-# The rows whose runs are about files and arguments, and the options of other runs that the program has by itself.
-OWN_ROWS, OWN_OPTIONS = ("opened", "wrong", "endless"), {"--hex", "--at", "--other-at", "--image"}
+# The rows whose runs are about files and arguments, or of a command that the library does not have; and the options of
+# other runs that the program has by itself.
+OWN_ROWS, OWN_OPTIONS = ("opened", "wrong", "endless", "same"), {"--hex", "--at", "--other-at", "--image"}
 # Volumes, and canonical images: with an extended header, a pad before an aligned file, and a volume inside.
 REPLACED = (
     *("ext-header-image", "misaligned-file-image", "nested-image", "empty", "file-sum-zero-data", "ext-header-bare"),

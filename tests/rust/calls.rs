@@ -4,7 +4,7 @@
 //! as digits, a number, or PEI. For each line this program writes the result in the form of `Debug`.
 
 use fv::depex::{evaluate, Phase};
-use fv::{header, hobs, image, section, sections, volume, Error, Guid, Reading};
+use fv::{header, hobs, image, section, sections, variables, volume, Error, Guid, Reading};
 use std::fmt::Debug;
 use std::io::{stdin, stdout, BufWriter, Write};
 
@@ -58,6 +58,9 @@ fn result_of(call: &str, words: &[&str]) -> String {
         }
         ("section_way", []) => shown(section::way(input)),
         ("section_open", [limit]) => shown(section::open(input, number(limit))),
+        ("image_same", [other, limit]) => shown(image::same(input, &bytes(other), number(limit))),
+        ("image_open", [limit]) => shown(image::open(input, number(limit))),
+        ("sections_survey", []) => shown(sections::survey(input)),
         ("sections_tree", []) => shown(sections::tree(input)),
         ("sections_tree_digests", []) => shown(sections::tree_digests(input)),
         ("sections_extract", [row]) => shown(sections::extract(input, number(row))),
@@ -71,6 +74,8 @@ fn result_of(call: &str, words: &[&str]) -> String {
         ("depex_evaluate", ["PEI", names]) => shown(evaluate(input, Phase::Pei, &guids(names))),
         ("depex_evaluate", ["DXE", names]) => shown(evaluate(input, Phase::Dxe, &guids(names))),
         ("hobs_read", []) => shown(hobs::read(input)),
+        ("signatures_read", []) => shown(variables::signatures(input)),
+        ("variables_read", []) => shown(variables::read(input)),
         _ => panic!("{call}"),
     }
 }

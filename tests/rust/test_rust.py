@@ -19,7 +19,7 @@ import fv
 import rows
 from tests.checks import ROOT, read
 from tests.frame import LIBRARY, RoomCase, needs_library, needs_tool
-from tests.libfv.inputs import fixed, spelled
+from tests.libfv.inputs import fixed, spelled, stored
 from tests.python.outcomes import OF_IMAGE, OF_SECTIONS, OF_VOLUME, Call, closed, made, outcome, packings, streams
 from tests.python.outcomes import volume_of
 
@@ -50,6 +50,7 @@ def inputs() -> Iterator[bytes]:
     yield from made().values()
     yield from spelled()
     yield from fixed()
+    yield from stored()
     library = rows.tables("library")
     images = (row for name in library if name.endswith("images") for row in library[name])
     yield from (rows.spelled(row.partition(" -> ")[0]) for row in images)
@@ -82,6 +83,7 @@ def requests() -> Iterator[Request]:
     for data in {it: None for it in inputs() if len(it) <= MOST}:
         for call in (*OF_VOLUME, *OF_SECTIONS, *OF_IMAGE, fv.header_read, fv.hobs_read):
             yield call.__name__, (data,)
+        yield from (("image_open", (data, limit)) for limit in (0, 2**30))
         yield from ((call.__name__, (data, UNMARKED)) for call in WITH_MARKS)
         yield from (("volume_extract", (data, row, UNMARKED)) for row in (0, 1, 2**64 - 1))
         yield from (("sections_extract", (data, row, UNMARKED)) for row in (0, 2**64 - 1))
@@ -94,7 +96,9 @@ def requests() -> Iterator[Request]:
         nodes = outcome(fv.volume_tree, data)
         count = 0 if isinstance(nodes, fv.Fault) else len(nodes)
         yield from (("volume_extract", (data, row)) for row in {*range(min(count, 30)), count, 2**64 - 1})
-    yield from (("volume_compare", it) for it in comparisons())
+    for pair in comparisons():
+        yield "volume_compare", pair
+        yield from (("image_same", (*pair, limit)) for limit in (0, 2**30))
     for section in (*(it.section for it in packings()), *(data for data, _, _ in closed())):
         yield "section_way", (section,)
         yield from (("section_open", (section, limit)) for limit in (0, 100, 2**20))
@@ -141,6 +145,8 @@ def result_of(call: str, arguments: tuple[Any, ...]) -> str:
     if call in ("volume_tree_digests", "sections_tree_digests"):
         rest = (f"Some(Digest({it.hex()}))" if it else "None" for it in found)
         return f"Ok([{', '.join(f'NodeDigest {{ digest: {it} }}' for it in rest)}])"
+    if call == "image_open":
+        return f"Ok(Image {{ sources: {debug(found.sources)}, closed: {debug(found.closed)} }})"
     if call == "depex_evaluate":
         return f"Ok({'Order' if found is None else found})"
     if call == "volume_compare":

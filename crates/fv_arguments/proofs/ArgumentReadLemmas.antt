@@ -21,8 +21,8 @@ differ a b h = is_false _ ((Decides-not _ (bytes_eq-Decides a b)).1 h)
 
 -- a name that is not the name of another command has the options of a volume
 pub no_other : (name : Text) → name ≢ codes "normalise" → name ≢ codes "check" → name ≢ codes "hobs" → name ≢ codes "extract" → name ≢ codes "compare"
-    → name ≢ codes "list" → name ≢ codes "open" → name ≢ codes "scan" → name ≢ codes "survey" → app_named name ≡ volume_app
-no_other name normalise check hobs extract compare list packed scan survey = grind (arith, common_steps, differ)
+    → name ≢ codes "list" → name ≢ codes "open" → name ≢ codes "scan" → name ≢ codes "survey" → name ≢ codes "same" → app_named name ≡ volume_app
+no_other name normalise check hobs extract compare list packed scan survey same = grind (arith, common_steps, differ)
 
 -- no option of a command changes how arguments are read, or has a rule about another option
 simple : (name : Text) → is_simple_and_free (app_named name) ≡ true

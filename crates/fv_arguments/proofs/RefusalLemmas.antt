@@ -1,8 +1,9 @@
 -- Arguments that are rejected as wrong are not right arguments. Either the reader finds a fault in them (`rejected`); or
 -- a text in them cannot be read, although it can be read in right arguments (`no_input`, `right_part`, `right_image`,
--- `right_path`, `right_volumes`); or an offset is given together with `--all` (`no_place`), or `--sums` together with
--- `--open` (`no_task`).
+-- `right_path`, `right_volumes`, `right_images`); or an offset is given together with `--all` (`no_place`), or `--sums`
+-- together with `--open` (`no_task`).
 use Rattle.std.proofs.Common.{◌≡◌, ◌≢◌, ◌&&◌, ◌||◌, ℕ, [], ◌∷◌, ◌∙◌, Bool, List, IfErr, Result, Ok, Err, Option, Some, None, ap, codes, inl, inr}
+use Rattle.std.specs.String.{string_bytes}
 use Rattle.std.proofs.Common.{drop, not, refl, subst, sym, true, false, true≢false, Global, IsErrAnd, String, Vec, is_some}
 use Rattle.fv_base.proofs.Laws.{IfErr-weaker, bytes_eq-Decides, bytes_eq}
 use Rattle.clap.specs.Values.{kind_of}
@@ -13,11 +14,11 @@ use Rattle.fv_plan.specs.declared.plan.Command.{Command}
 use Rattle.fv_plan.specs.declared.plan.ImageFile.{ImageFile}
 use Rattle.fv_plan.specs.declared.plan.Part.{Part}
 use Rattle.fv_plan.specs.declared.plan.VolumeFile.{VolumeFile}
-use Rattle.fv_plan.specs.declared.plan.Command.TheVariants.{Single, Hobs, Open, Compare}
+use Rattle.fv_plan.specs.declared.plan.Command.TheVariants.{Single, Hobs, Open, Compare, Same}
 use Rattle.fv_plan.specs.declared.plan.Task.TheVariants.{Normalise, NormaliseAll, List as Listing, ListSums, ListOpened}
-use Rattle.fv_plan.specs.declared.plan.Task.TheVariants.{Extract, ExtractOpened, Check, CheckAll, Cells, Unfix, Scan, Survey}
+use Rattle.fv_plan.specs.declared.plan.Task.TheVariants.{Extract, ExtractOpened, Check, CheckAll, Cells, Unfix, Scan, Survey, SurveyOpened}
 use Rattle.fv_arguments.proofs.ArgumentReadLemmas.{by_name, faults_read}
-use Rattle.fv_arguments.specs.Words.{compare_app, extract_app, faults_in, flag_in, hobs_app, image_app, list_app, text_in, HasInput, HasTexts}
+use Rattle.fv_arguments.specs.Words.{compare_app, same_app, extract_app, faults_in, flag_in, hobs_app, image_app, list_app, text_in, HasInput, HasTexts}
 use Rattle.fv_arguments.specs.Words.{IsAtWord, IsImageWords, IsPartBy, IsPathWord, IsVolumeWords, command_app, command_name, open_app}
 use Rattle.fv_arguments.specs.declared.words.WordFault.{WordFault}
 use Rattle.fv_arguments.specs.inner.CommandWords.{AreRightFor, AsksOrFails, IsParsed, ParsesOrFails, app_named}
@@ -29,13 +30,13 @@ named_app : (c : Command) → app_named (command_name c) ≡ command_app c
 named_app (Single Normalise at file) = refl
 named_app c = refl
 
-same_app : (name : List ℕ) (c : Command) → name ≡ command_name c → app_named name ≡ command_app c
-same_app name c is = ap app_named is ∙ named_app c
+app_is : (name : List ℕ) (c : Command) → name ≡ command_name c → app_named name ≡ command_app c
+app_is name c is = ap app_named is ∙ named_app c
 
 -- so if the rules for a command's name accepted some arguments, the rules of the command accepted them
 pub read_of : {rest : List (List ℕ)} {m : ArgMatches} (name : List ℕ) (c : Command) → name ≡ command_name c
     → IsParsed (app_named name) rest m → IsParsed (command_app c) rest m
-read_of name c is r = rw (same_app name c is) at r
+read_of name c is r = rw (app_is name c is) at r
 
 -- a fault of the reader is passed on: out of memory stays out of memory, and any other fault becomes a fault of the
 -- arguments
@@ -57,7 +58,7 @@ pub rejected : {T : Type 0} (name : List ℕ) (given : App) → given ≡ app_na
 rejected name given same words e kinds r h =
     let among = subst (λ ks. HasKind ks e) (faults_read name words) (by_name (λ a. HasKind (fault_of a words) e) name given same kinds) in
     IfErr-weaker r _ _ (λ f wrong is right. wrong is (ap (λ a. faults_in a (drop 1 words))
-    (same_app name right.0.command right.1.command) ∙ right.1.taken)) (handed_on r e _ h among)
+    (app_is name right.0.command right.1.command) ∙ right.1.taken)) (handed_on r e _ h among)
 
 -- a value is rejected because a value of which it is made is rejected
 pub passed : {X Y : Type 0} (P : X → Type 0) (Q : Y → Type 0) (r : Result Y WordFault) (f : WordFault) → IsErrAnd r (λ g. g ≡ f)
@@ -73,7 +74,7 @@ other a b e is = true≢false (sym ((bytes_eq-Decides a b).1 is) ∙ e)
 abbrev is_on_volume : List ℕ → Bool
 is_on_volume name =
     not (bytes_eq name (codes "hobs")) && (not (bytes_eq name (codes "compare")) && (not (bytes_eq name (codes "scan"))
-    && not (bytes_eq name (codes "survey"))))
+    && (not (bytes_eq name (codes "survey")) && not (bytes_eq name (codes "same")))))
 
 -- the arguments have an input for the command with this name
 abbrev SomeInput : List ℕ → List (List ℕ) → Type 0
@@ -96,6 +97,7 @@ right_input name rest volume right =
     go (Single Unfix at file) volume texts = ((at, file), texts)
     go (Single Scan at file) volume texts = absurd (true≢false (sym volume))
     go (Single Survey at file) volume texts = absurd (true≢false (sym volume))
+    go (Single SurveyOpened at file) volume texts = absurd (true≢false (sym volume))
     go (Single task at file) volume texts = ((at, file), texts.1)
     go (Open path at file) volume texts = ((at, file), texts.0)
     go c volume texts = absurd (true≢false (sym volume))
@@ -191,5 +193,19 @@ right_volumes rest right = go right.0.command right.1.command right.1.texts
   where
     go : (c : Command) → codes "compare" ≡ command_name c → HasTexts rest c → SomeVolumes rest
     go (Compare first second) is texts = (first, second, texts.0, texts.1)
+    go (Single Normalise at file) is texts = absurd (other _ _ refl is)
+    go c is texts = absurd (other _ _ refl is)
+
+-- the arguments have two images for `same`
+abbrev pub SomeImages : List (List ℕ) → Type 0
+SomeImages rest = (first : String Global) × (second : String Global)
+    × (Some (string_bytes first) ≡ text_in same_app (codes "first") rest)
+    × (Some (string_bytes second) ≡ text_in same_app (codes "second") rest)
+
+pub right_images : (rest : List (List ℕ)) → AreRightFor (codes "same") rest → SomeImages rest
+right_images rest right = go right.0.command right.1.command right.1.texts
+  where
+    go : (c : Command) → codes "same" ≡ command_name c → HasTexts rest c → SomeImages rest
+    go (Same first second) is texts = (first, second, texts.0, texts.1)
     go (Single Normalise at file) is texts = absurd (other _ _ refl is)
     go c is texts = absurd (other _ _ refl is)

@@ -14,11 +14,11 @@ use Rattle.fv_plan.specs.declared.plan.ImageFile.{ImageFile}
 use Rattle.fv_plan.specs.declared.plan.Plan.{Plan}
 use Rattle.fv_plan.specs.declared.plan.VolumeFile.{VolumeFile}
 use Rattle.fv_arguments.specs.Options.{compare_app, extract_app, faults_in, flag_in, hobs_app, list_app, image_app, one_input_app}
-use Rattle.fv_arguments.specs.Options.{open_app}
+use Rattle.fv_arguments.specs.Options.{open_app, same_app, survey_app}
 use Rattle.fv_arguments.specs.Options.{text_in, volume_app}
-use Rattle.fv_plan.specs.declared.plan.Command.TheVariants.{Single, Hobs, Open, Compare}
+use Rattle.fv_plan.specs.declared.plan.Command.TheVariants.{Single, Hobs, Open, Compare, Same}
 use Rattle.fv_plan.specs.declared.plan.Task.TheVariants.{Normalise, NormaliseAll, List as Listing, ListSums, ListOpened}
-use Rattle.fv_plan.specs.declared.plan.Task.TheVariants.{Extract, ExtractOpened, Check, CheckAll, Cells, Unfix, Scan, Survey}
+use Rattle.fv_plan.specs.declared.plan.Task.TheVariants.{Extract, ExtractOpened, Check, CheckAll, Cells, Unfix, Scan, Survey, SurveyOpened}
 
 -- the plan of a command line without arguments: normalise hexadecimal text from standard input
 abbrev pub plan_without_arguments : Plan
@@ -39,9 +39,11 @@ command_name (Single Cells at file) = codes "cells"
 command_name (Single Unfix at file) = codes "unfix"
 command_name (Single Scan at file) = codes "scan"
 command_name (Single Survey at file) = codes "survey"
+command_name (Single SurveyOpened at file) = codes "survey"
 command_name (Hobs file image) = codes "hobs"
 command_name (Open path at file) = codes "open"
 command_name (Compare first second) = codes "compare"
+command_name (Same first second) = codes "same"
 
 -- the rules of the command's arguments
 abbrev pub command_app : Command → App
@@ -57,10 +59,12 @@ command_app (Single CheckAll at file) = image_app
 command_app (Single Cells at file) = volume_app
 command_app (Single Unfix at file) = volume_app
 command_app (Single Scan at file) = one_input_app
-command_app (Single Survey at file) = one_input_app
+command_app (Single Survey at file) = survey_app
+command_app (Single SurveyOpened at file) = survey_app
 command_app (Hobs file image) = hobs_app
 command_app (Open path at file) = open_app
 command_app (Compare first second) = compare_app
+command_app (Same first second) = same_app
 
 -- the digits spell n in this radix, and n has at most `bits` bits
 abbrev pub IsNumeralOf : (radix bits : ℕ) → List ℕ → ℕ → Type 0
@@ -160,7 +164,11 @@ HasTexts rest (Single Unfix at file) = HasInput volume_app rest at file
 HasTexts rest (Single Scan at file) =
     (at ≡ None) × (option_map string_bytes file ≡ text_in one_input_app (codes "file") rest)
 HasTexts rest (Single Survey at file) =
-    (at ≡ None) × (option_map string_bytes file ≡ text_in one_input_app (codes "file") rest)
+    (flag_in survey_app (codes "open") rest ≡ false) × (at ≡ None)
+    × (option_map string_bytes file ≡ text_in survey_app (codes "file") rest)
+HasTexts rest (Single SurveyOpened at file) =
+    (flag_in survey_app (codes "open") rest ≡ true) × (at ≡ None)
+    × (option_map string_bytes file ≡ text_in survey_app (codes "file") rest)
 HasTexts rest (Hobs file image) =
     (option_map string_bytes file ≡ text_in hobs_app (codes "file") rest)
     × IsImageWords (text_in hobs_app (codes "image") rest) (text_in hobs_app (codes "base") rest) image
@@ -169,6 +177,9 @@ HasTexts rest (Open path at file) =
 HasTexts rest (Compare first second) =
     IsVolumeWords (text_in compare_app (codes "first") rest) (text_in compare_app (codes "at") rest) first
     × IsVolumeWords (text_in compare_app (codes "second") rest) (text_in compare_app (codes "other-at") rest) second
+HasTexts rest (Same first second) =
+    (Some (string_bytes first) ≡ text_in same_app (codes "first") rest)
+    × (Some (string_bytes second) ≡ text_in same_app (codes "second") rest)
 
 -- the plan is for the command with this name. The parser accepts the arguments after the name, these arguments give the
 -- plan's command, and inputs and outputs are hexadecimal text exactly if the flag `--hex` is given

@@ -25,6 +25,10 @@ flag_app = with_rule (new_app (codes "fvtool")) (flag_rule (codes "hex"))
 abbrev pub one_input_app : App
 one_input_app = with_rule flag_app (new_rule (codes "file"))
 
+-- the rules of `survey`: an image; and `--open`, which goes through packed sections
+abbrev pub survey_app : App
+survey_app = with_rule (with_rule flag_app (flag_rule (codes "open"))) (new_rule (codes "file"))
+
 -- the rules of a command with a volume in an input: `--at` is the byte of the input at which the volume begins
 abbrev pub volume_app : App
 volume_app = with_rule (with_rule flag_app (option_rule (codes "at"))) (new_rule (codes "file"))
@@ -60,6 +64,10 @@ abbrev pub compare_app : App
 compare_app =
     with_rule (with_rule (with_rule (with_rule flag_app (option_rule (codes "at"))) (option_rule (codes "other-at")))
     (new_rule (codes "first"))) (new_rule (codes "second"))
+
+-- the rules of `same`: two inputs
+abbrev pub same_app : App
+same_app = with_rule (with_rule flag_app (new_rule (codes "first"))) (new_rule (codes "second"))
 
 -- the values that the parser finds in the arguments after the command's name
 abbrev pub rows_in : App → List (List ℕ) → List Row

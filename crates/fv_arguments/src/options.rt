@@ -349,6 +349,25 @@ fn compare(alloc: Global, matches: &ArgMatches<'_>) -> Result<Command, WordFault
     Ok(Command::Compare { first, second })
 }
 
+// Returns the file with this path, which must be given.
+fn path_of(alloc: Global, path: Option<&str>) -> Result<String, WordFault>
+    ensures { ParsesOrFails (λ file. Some (string_bytes file) ≡ option_map (λ s. s.now) path.entry) result }
+{
+    match path {
+        Some(path) => Ok(String::from_str(alloc, path)?),
+        None => Err(WordFault::Words),
+    }
+}
+
+// Reads the arguments of `same`: two files, all of which are read.
+fn same(alloc: Global, matches: &ArgMatches<'_>) -> Result<Command, WordFault>
+    ensures { AsksOrFails (codes "same") matches.now result }
+{
+    let first = path_of(alloc, matches.get_str("first"))?;
+    let second = path_of(alloc, matches.get_str("second"))?;
+    Ok(Command::Same { first, second })
+}
+
 // Reads the arguments of `cells`: a volume.
 fn cells(alloc: Global, matches: &ArgMatches<'_>) -> Result<Command, WordFault>
     ensures { AsksOrFails (codes "cells") matches.now result }
@@ -367,12 +386,24 @@ fn unfix(alloc: Global, matches: &ArgMatches<'_>) -> Result<Command, WordFault>
     Ok(Command::Single { task, at, file })
 }
 
-// Reads the arguments of `scan` or `survey`: a file, all of which is read. The task is the task of
-// the command.
-fn on_file(alloc: Global, matches: &ArgMatches<'_>, task: Task) -> Result<Command, WordFault>
-    ensures scan { task ≡ Task.Scan → AsksOrFails (codes "scan") matches.now result }
-    ensures survey { task ≡ Task.Survey → AsksOrFails (codes "survey") matches.now result }
+// Reads the arguments of `scan`: a file, all of which is read.
+fn scan(alloc: Global, matches: &ArgMatches<'_>) -> Result<Command, WordFault>
+    ensures { AsksOrFails (codes "scan") matches.now result }
 {
+    let file = file_of(alloc, matches, "file")?;
+    Ok(Command::Single {
+        task: Task::Scan,
+        at: None,
+        file,
+    })
+}
+
+// Reads the arguments of `survey`: a file, all of which is read, and whether the survey goes through
+// packed sections.
+fn survey(alloc: Global, matches: &ArgMatches<'_>) -> Result<Command, WordFault>
+    ensures { AsksOrFails (codes "survey") matches.now result }
+{
+    let task = task_by(is_given(matches, "open"), Task::SurveyOpened, Task::Survey);
     let file = file_of(alloc, matches, "file")?;
     Ok(Command::Single {
         task,
@@ -393,9 +424,10 @@ fn command_of(alloc: Global, name: &str, matches: &ArgMatches<'_>) -> Result<Com
         "check" => on_image(alloc, matches, Task::CheckAll, Task::Check),
         "cells" => cells(alloc, matches),
         "unfix" => unfix(alloc, matches),
-        "scan" => on_file(alloc, matches, Task::Scan),
-        "survey" => on_file(alloc, matches, Task::Survey),
+        "scan" => scan(alloc, matches),
+        "survey" => survey(alloc, matches),
         "compare" => compare(alloc, matches),
+        "same" => same(alloc, matches),
         "open" => open_section(alloc, matches),
         _ => Err(WordFault::Words),
     }

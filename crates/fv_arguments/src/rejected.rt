@@ -51,7 +51,7 @@ fn wrong_value<'a>(command: &str, matches: &ArgMatches<'a>) -> Option<(&'static 
 fn broken_rule(name: &str) -> &'static str {
     match name {
         "extract" => "'--name' is missing",
-        "compare" => "two files are needed",
+        "compare" | "same" => "two files are needed",
         "hobs" => "'--image' and '--base' must be given together",
         "list" => "'--sums' and '--open' cannot be given together",
         _ => "'--all' and '--at' cannot be given together",
@@ -72,6 +72,7 @@ fn is_command(name: &str) -> bool {
             | "scan"
             | "survey"
             | "compare"
+            | "same"
             | "hobs"
     )
 }

@@ -2,7 +2,7 @@
 
 ghost use Rattle.clap.specs.Words.{App, Rule, app_of, new_rule, rule_of, with_rule};
 ghost use Rattle.fv_arguments.specs.Options.{compare_app, extract_app, flag_app, flag_rule, hobs_app, list_app};
-ghost use Rattle.fv_arguments.specs.Options.{one_input_app, open_app, option_rule};
+ghost use Rattle.fv_arguments.specs.Options.{one_input_app, open_app, option_rule, same_app, survey_app};
 ghost use Rattle.fv_arguments.specs.inner.CommandWords.{app_named};
 ghost use Rattle.std.specs.Prelude.{◌≡◌, codes, false, IfOk};
 
@@ -68,6 +68,14 @@ fn file_rules<'a>(alloc: Global) -> Result<Command<'a>, AllocError>
     add(text_rules(alloc), Arg::new(alloc, "file"))
 }
 
+// Makes the rules of `survey`.
+fn survey_rules<'a>(alloc: Global) -> Result<Command<'a>, AllocError>
+    ensures { IfOk result (λ c. app_of c ≡ survey_app) }
+{
+    let opened = add(text_rules(alloc), flag(alloc, "open"));
+    add(opened, Arg::new(alloc, "file"))
+}
+
 // Makes the rules of `hobs`. Whether the image and its base are given together is checked after
 // parsing.
 fn hobs_rules<'a>(alloc: Global) -> Result<Command<'a>, AllocError>
@@ -117,6 +125,14 @@ fn compare_rules<'a>(alloc: Global) -> Result<Command<'a>, AllocError>
     add(first, Arg::new(alloc, "second"))
 }
 
+// Makes the rules of `same`, which has two inputs. Whether both are named is checked after parsing.
+fn same_rules<'a>(alloc: Global) -> Result<Command<'a>, AllocError>
+    ensures { IfOk result (λ c. app_of c ≡ same_app) }
+{
+    let first = add(text_rules(alloc), Arg::new(alloc, "first"));
+    add(first, Arg::new(alloc, "second"))
+}
+
 // Makes the rules of the command with this name. `cells` and `unfix` take a volume. A name
 // that is not a command gets the same rules, and is rejected after parsing.
 pub(crate) fn rules_of<'a>(alloc: Global, name: &str) -> Result<Command<'a>, AllocError>
@@ -131,7 +147,8 @@ pub(crate) fn rules_of<'a>(alloc: Global, name: &str) -> Result<Command<'a>, All
         "compare" => compare_rules(alloc),
         "open" => open_rules(alloc),
         "scan" => file_rules(alloc),
-        "survey" => file_rules(alloc),
+        "survey" => survey_rules(alloc),
+        "same" => same_rules(alloc),
         _ => add_volume(alloc, text_rules(alloc)),
     }
 }

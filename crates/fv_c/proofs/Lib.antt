@@ -9,4 +9,6 @@ pub mod SectionRows
 pub mod UnfixKinds
 pub mod HeaderLaws
 pub mod HeaderRows
-pub mod SurveyRows
+pub mod LevelRows
+pub mod ListedRows
+pub mod VariableRows

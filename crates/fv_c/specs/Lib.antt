@@ -8,10 +8,13 @@ pub mod ReportedSurvey
 pub mod ReportedTruths
 pub mod ReportedHobs
 pub mod ReportedContents
+pub mod ReportedLevels
+pub mod ReportedSameness
 pub mod ReadInputs
 pub mod TreeParts
 pub mod ReportedTree
 pub mod ReportedDigests
 pub mod ExtractedParts
 pub mod ReportedSections
+pub mod ReportedVariables
 pub mod inner

@@ -1,7 +1,7 @@
 -- The rows of a survey, as they are reported to C (PI specification, volume 3, section 3.2).
 use Rattle.std.specs.Prelude.{ℕ, Bool, true, false, List, map}
 use Rattle.fv_base.specs.Words.{bytes_of}
-use Rattle.fv_survey.specs.Words.{bits_of, survey_of}
+use Rattle.fv_survey.specs.Words.{bits_of, survey_of, survey_of_sections}
 use Rattle.fv_survey.specs.declared.row.Row.{Row}
 use Rattle.fv_survey.specs.declared.row.RowKind.{RowKind}
 use Rattle.fv_survey.specs.declared.row.RowKind.TheVariants as kinds
@@ -53,3 +53,7 @@ reported_row r = record {
 -- the reports of the rows of the survey of an image, in preorder
 abbrev pub reported_survey : (image : List ℕ) → List FvSurveyRow
 reported_survey image = map reported_row (survey_of image)
+
+-- the reports of the rows of the survey of a stream of sections, in preorder
+abbrev pub reported_sections_survey : (sections : List ℕ) → List FvSurveyRow
+reported_sections_survey sections = map reported_row (survey_of_sections sections)

@@ -43,7 +43,7 @@ pub struct FvContents {
 }
 
 // Returns the number of a way.
-fn way_number(way: Way) -> u32
+pub(crate) fn way_number(way: Way) -> u32
     ensures { result ≡ way_number way }
 {
     match way {
@@ -71,7 +71,7 @@ fn open_result(kind: OpenFaultKind) -> u32
 }
 
 // Sets `fault` to the report of a fault of a section, and returns the result.
-fn set_open_fault(f: OpenFault, fault: &mut FvFault) -> u32
+pub(crate) fn set_open_fault(f: OpenFault, fault: &mut FvFault) -> u32
     ensures result { result ≡ open_result f.kind }
     ensures fault { fault.new ≡ reported_open_fault f }
 {

@@ -6,9 +6,9 @@
 //! buffer is too small, and 257 that the tree has no row with the number that was passed. 512 and
 //! more are faults of dependency expressions, 768 and more are faults of hand-off lists, and 1024 and
 //! more are faults of sections that are opened. If a call does not return 0, the caller's buffer is
-//! unchanged: the clause `kept` states this. (Only `fvp_image_survey` may have written its first
-//! rows then.) The clause `small` states when a call returns 256, and the length that the buffer
-//! needs.
+//! unchanged: the clause `kept` states this. (Only the surveys, `fvp_variables_read` and
+//! `fvp_signatures_read` may have written their first rows then.) The clause `small` states when a
+//! call returns 256, and the length that the buffer needs.
 #![tactic(auto)]
 
 mod buffer;
@@ -24,7 +24,9 @@ pub mod image_checks;
 mod input;
 pub mod laws;
 mod layout;
+pub mod levels;
 pub mod reports;
+pub mod same;
 mod scan;
 pub mod sections;
 mod streams;
@@ -33,3 +35,4 @@ mod translate;
 pub mod tree;
 pub mod tree_digests;
 mod unfix;
+pub mod variables;

@@ -1,1 +1,3 @@
 pub mod MemoryLaws
+pub mod SameLaws
+pub mod SurveyLaws

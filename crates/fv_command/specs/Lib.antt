@@ -7,6 +7,7 @@ pub mod OpenRuns
 pub mod ImageChecks
 pub mod PartLines
 pub mod SurveyRuns
+pub mod SameRuns
 pub mod Tasks
 pub mod PlanRuns
 pub mod Words

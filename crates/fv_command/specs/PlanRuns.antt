@@ -7,13 +7,14 @@ use Rattle.fv_command.specs.declared.source.Source.TheVariants.{Standard, File, 
 use Rattle.fv_command.specs.Endings.{Ends, refusal_line}
 use Rattle.fv_command.specs.OpenRuns.{OpenText, OpenStops}
 use Rattle.fv_command.specs.PairRuns.{ListsHobs, StopsHobs, ComparisonRunText, SideStops}
+use Rattle.fv_command.specs.SameRuns.{SameRunText, SameStops}
 use Rattle.fv_plan.specs.Words.{first_file, second_file}
 use Rattle.fv_plan.specs.declared.plan.Command.{Command}
 use Rattle.fv_plan.specs.declared.plan.Plan.{Plan}
 use Rattle.fv_text.specs.Words.{Change, PortView, port_view}
 use Rattle.fv_command.specs.RunInputs.{GivesAt, InputStops}
 use Rattle.fv_command.specs.Tasks.{TaskText, TaskRefusal}
-use Rattle.fv_plan.specs.declared.plan.Command.TheVariants.{Single, Hobs, Open, Compare}
+use Rattle.fv_plan.specs.declared.plan.Command.TheVariants.{Single, Hobs, Open, Compare, Same}
 use Rattle.fv_command.specs.declared.ending.Ending.{Ending}
 use Rattle.fv_command.specs.declared.ending.Refusal.{Refusal}
 use Rattle.fv_command.specs.declared.ending.Refusal.TheVariants.{Input, OneOfTwo}
@@ -57,9 +58,10 @@ CommandRunText (Hobs file image) hex first second status text =
 CommandRunText (Open path at file) hex first second status text =
     (second.new ≡ second.old) × OpenText path hex at first status text
 CommandRunText (Compare a b) hex first second status text = ComparisonRunText hex a.at b.at first second status text
+CommandRunText (Same a b) hex first second status text = SameRunText hex first second status text
 
--- why a command is refused, for these reads of its inputs: a fault of an input, of one of two volumes with its side, of
--- a hand-off list, or of a packed section. A task and `open` read nothing of the second input
+-- why a command is refused, for these reads of its inputs: a fault of an input, of one of two volumes or images with its
+-- side, of a hand-off list, or of a packed section. A task and `open` read nothing of the second input
 abbrev pub StopsCommand : Command → Bool → (first second : Change) → Refusal → Type 0
 StopsCommand (Single task at file) hex first second (Input fault) =
     (second.new ≡ second.old) × InputStops (TaskRefusal task) hex at first fault
@@ -70,6 +72,8 @@ StopsCommand (Open path at file) hex first second refusal =
     (second.new ≡ second.old) × OpenStops path hex at first refusal
 StopsCommand (Compare a b) hex first second (OneOfTwo side fault) = SideStops side hex a.at b.at first second fault
 StopsCommand (Compare a b) hex first second refusal = ⊥
+StopsCommand (Same a b) hex first second (OneOfTwo side fault) = SameStops side hex first second fault
+StopsCommand (Same a b) hex first second refusal = ⊥
 
 -- the text and the status of a run. Without a refusal they are the text and the status of the command. With a refusal
 -- the command is refused for that reason, the text is the line of the refusal, and the status is Refused

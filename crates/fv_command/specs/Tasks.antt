@@ -27,12 +27,12 @@ use Rattle.fv_text.specs.Words.{ShowsBytes}
 use Rattle.fv_command.specs.RunInputs.{BeginsWith, BeginsNone}
 use Rattle.fv_command.specs.ImageChecks.{checked_line, checks_status}
 use Rattle.fv_command.specs.PartLines.{opened_status, part_line, part_status, search_line, search_status}
-use Rattle.fv_command.specs.SurveyRuns.{SurveyRunText}
+use Rattle.fv_command.specs.SurveyRuns.{OpenedSurveyText, SurveyRunText}
 use Rattle.fv_command.specs.declared.status.Status.{Status}
 use Rattle.fv_command.specs.declared.status.Status.TheVariants.{Done, Different}
 use Rattle.fv_plan.specs.declared.plan.Task.{Task}
 use Rattle.fv_plan.specs.declared.plan.Task.TheVariants.{Normalise, NormaliseAll, List as Listing, ListSums, ListOpened}
-use Rattle.fv_plan.specs.declared.plan.Task.TheVariants.{Extract, ExtractOpened, Check, CheckAll, Cells, Unfix, Scan, Survey}
+use Rattle.fv_plan.specs.declared.plan.Task.TheVariants.{Extract, ExtractOpened, Check, CheckAll, Cells, Unfix, Scan, Survey, SurveyOpened}
 
 -- a volume with this meaning has these cells and this erase polarity; the cells tile its body, from the offset where
 -- the first file may begin
@@ -73,6 +73,8 @@ pub record CheckText (input : List ℕ) (same : Bool) (text : List ℕ) : Type 0
 -- - `Scan`: the lines of the volumes in the input
 -- - `Survey`: what each byte of the input is. The status is Incomplete if memory ran out after the lines of the first
 --   rows
+-- - `SurveyOpened`: the same, and what each byte of the contents of its packed sections is, at every level. The status is
+--   Incomplete if memory ran out after the first lines
 abbrev pub TaskText : Task → Bool → List ℕ → Status → List ℕ → Type 0
 TaskText Normalise hex input Done text = (image : List ℕ) × NormalisesTo input image × ShowsBytes hex image text
 TaskText NormaliseAll hex input Done text = (image : List ℕ) × NormalisesAll input image × ShowsBytes hex image text
@@ -97,6 +99,7 @@ TaskText Cells hex input Done text = CellsText input text
 TaskText Unfix hex input Done text = (o : List ℕ) × UnfixesTo input o × ShowsBytes hex o text
 TaskText Scan hex input Done text = (volumes : List FoundVolume) × AreFound input volumes × (text ≡ flat_map volume_line volumes)
 TaskText Survey hex input status text = SurveyRunText input status text
+TaskText SurveyOpened hex input status text = OpenedSurveyText input status text
 TaskText task hex input status text = ⊥
 
 -- memory ran out, which can happen only if a volume begins in the input, at a multiple of 8
@@ -120,7 +123,7 @@ MemoryRanOutForCopy input fault = (fault ≡ out_of_memory) × ((o : List ℕ) �
 -- - `Unfix`: the input does not begin with a volume whose body is tiled by cells when no file is marked as fixed, or
 --   bytes follow the volume
 -- - `Scan`: no other reason
--- - `Survey`: none, because an input of any bytes has a survey
+-- - `Survey`, `SurveyOpened`: none, because an input of any bytes has a survey
 -- Memory can run out only if the input begins with a volume header. Three tasks look for volumes in the input
 -- (`NormaliseAll`, `CheckAll`, `Scan`): there memory can run out only if a volume begins in the input and, in the first
 -- two, the input is not longer than the limit. In `Unfix` it can run out only if the input is a volume from which the
@@ -147,3 +150,4 @@ TaskRefusal Cells input fault = MemoryRanOut input fault ⊎ NotTiled input faul
 TaskRefusal Unfix input fault = MemoryRanOutForCopy input fault ⊎ NotUnfixed input fault
 TaskRefusal Scan input fault = MemoryRanOutInImage input fault
 TaskRefusal Survey input fault = ⊥
+TaskRefusal SurveyOpened input fault = ⊥

@@ -10,7 +10,8 @@ pub use Rattle.fv_command.specs.OpenRuns.{OpenStops}
 pub use Rattle.fv_command.specs.ImageChecks.{outcome_line, checked_line, is_rejected, is_not_canonical, checks_status}
 pub use Rattle.fv_command.specs.PartLines.{part_line, part_status, absent_line, found_line, search_line, opened_status}
 pub use Rattle.fv_command.specs.PartLines.{found_status, search_status}
-pub use Rattle.fv_command.specs.SurveyRuns.{survey_status, SurveyRunText}
+pub use Rattle.fv_command.specs.SurveyRuns.{survey_status, SurveyRunText, OpenedSurveyText}
+pub use Rattle.fv_command.specs.SameRuns.{place_text, same_line, IsSameAnswer, SameRunText, SameStops}
 pub use Rattle.fv_command.specs.Tasks.{AreCells, CheckText, TaskText}
 pub use Rattle.fv_command.specs.Tasks.{MemoryRanOutInImage, MemoryRanOutForCopy, TaskRefusal}
 pub use Rattle.fv_command.specs.PlanRuns.{unread, IsOpened, IsFirstSource, IsSecondSource, CommandRunText, StopsCommand}

@@ -17,8 +17,8 @@ use fv_tree::VolumeView;
 use std::alloc::Global;
 use std::io::Read;
 
-// Reads the input of a side. A fault is returned with the side.
-fn read_side<R: Read>(
+/// Reads the input of a side. A fault is returned with the side.
+pub(crate) fn read_side<R: Read>(
     alloc: Global,
     hex: bool,
     side: Side,
@@ -45,8 +45,8 @@ fn accept_side(alloc: Global, side: Side, bytes: &[u8]) -> Result<VolumeView<'_>
     }
 }
 
-// Returns the status of a comparison: Done if the volumes are the same, otherwise Different.
-fn verdict(is_same: bool) -> Status
+/// Returns the status of a comparison: Done if the inputs are the same, otherwise Different.
+pub(crate) fn verdict(is_same: bool) -> Status
     ensures { result ≡ verdict_of is_same }
 {
     if is_same {

@@ -20,6 +20,7 @@ mod packed;
 mod pads;
 mod plan_run;
 mod run_end;
+mod same_run;
 mod shown_image;
 mod source;
 mod status;

@@ -12,6 +12,7 @@ use crate::fault_text::put_refusal;
 use crate::hob_run::put_hob_list;
 use crate::open_run::{put_first_section, put_section_at};
 use crate::run_end::{finish, wrote_all};
+use crate::same_run::put_same;
 use crate::status::Status;
 use crate::task_run::put_task;
 use fv_base::{Port, Sink, WriteSink};
@@ -65,6 +66,10 @@ fn put_command<First: Read, Second: Read, S: Sink>(
             Ok(status) => Ok(status),
             Err((side, fault)) => Err(Refusal::OneOfTwo(side, fault)),
         },
+        Command::Same { .. } => match put_same(alloc, plan.hex, first, second, out) {
+            Ok(status) => Ok(status),
+            Err((side, fault)) => Err(Refusal::OneOfTwo(side, fault)),
+        },
     }
 }
 
@@ -114,7 +119,7 @@ fn gather_plan<First: Read, Second: Read, S: Sink>(
 /// nothing from the second reader.
 ///
 /// If the whole result was written, the status is Done, Different, Faulty or Incomplete. Different
-/// means that two volumes differ, that a part does not exist, that a volume is not its own canonical
+/// means that two volumes or images differ, that a part does not exist, that a volume is not its own canonical
 /// image, or that a survey has unread bytes or findings. Faulty means that a volume of a checked
 /// image is rejected. Incomplete means that memory ran out in a survey or in a packed section, and
 /// the result lacks what would follow, or what is in this section. Otherwise the status is Refused:

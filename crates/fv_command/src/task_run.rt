@@ -14,7 +14,7 @@ use crate::image_check_run::put_image_check;
 use crate::inputs::{read_bytes, taken_at};
 use crate::shown_image::put_shown_image;
 use crate::status::Status;
-use crate::survey_run::put_surveyed;
+use crate::survey_run::{put_surveyed, put_surveyed_opened};
 use crate::unfix_run::put_unfixed;
 use fv_base::{Fault, Port, Sink};
 use fv_canon::{ImageDigests, lay_out_image, lay_out_volume, layout};
@@ -120,6 +120,7 @@ fn perform<S: Sink>(
         Task::Unfix => put_unfixed(alloc, hex, input, out),
         Task::Scan => scan(alloc, input, out),
         Task::Survey => Ok(put_surveyed(alloc, input, out)),
+        Task::SurveyOpened => Ok(put_surveyed_opened(alloc, input, out)),
     }
 }
 

@@ -1,7 +1,7 @@
--- The levels of an image: the packed sections of all sources are tried (`all_tried`), and each source
--- is the contents of a section of an earlier source (`all_after`).
+-- The levels of an image: the packed sections of all sources are tried (`all_tried`, `each_tried`), and each source is
+-- the contents of a section of an earlier source (`all_after`).
 use Rattle.std.proofs.Common.{◌≡◌, ◌==◌, ◌*◌, min, ◌+◌, ◌<◌, ◌≤◌, ℕ, zero, suc, List, [], ◌∷◌, ◌++◌, Bool, true, false, length, map}
-use Rattle.std.proofs.Common.{Result, Ok, Err, nat_le, if◌then◌else◌, ap, ap₂, sym, refl, subst, ◌∙◌, append_assoc, arith}
+use Rattle.std.proofs.Common.{◌⊎◌, inl, inr, Result, Ok, Err, nat_le, if◌then◌else◌, ap, ap₂, sym, refl, subst, ◌∙◌, append_assoc, arith}
 use Rattle.std.specs.List.{AllByRecursion}
 use Rattle.fv_base.proofs.Laws.{None, Option, Some, flat_map-append, length-append, nat_tests}
 use Rattle.fv_base.specs.Words.{volume_limit}
@@ -12,13 +12,16 @@ use Rattle.fv_open.specs.Words.{opened}
 use Rattle.fv_open.specs.declared.fault.OpenFault.{OpenFault}
 use Rattle.fv_open.specs.declared.way.Way.{Way}
 use Rattle.fv_survey.specs.declared.row.Row.{Row}
-use Rattle.fv_levels.specs.Words.{AreLevels, Attempt, ComeAfter, SourceForm, attempt, attempts_of, budget_after, image_source, left_after}
+use Rattle.fv_levels.specs.Words.{AreLevels, Attempt, ComeAfter, SourceForm, after, after_all, attempt, attempts_of, budget_after}
 use Rattle.fv_levels.specs.Words.{level_of, levels_from, levels_of, outcome_of, outcome_within, packed_in, packed_of, packed_rows, section_in}
-use Rattle.fv_levels.specs.Words.{LevelsForm, closed_if, closed_of, source_if, sources_of, tried}
+use Rattle.fv_levels.specs.Words.{LevelsForm, IsTried, closed_if, closed_of, first_progress, image_source, is_covered, last_stored, stored_in}
+use Rattle.fv_levels.specs.Words.{source_if, sources_of, tried}
+use Rattle.fv_levels.specs.declared.attempt.Progress.{Progress}
+use Rattle.fv_levels.specs.declared.attempt.Stored.{Stored}
 use Rattle.fv_levels.specs.declared.place.PackedPlace.{PackedPlace}
 use Rattle.fv_levels.specs.declared.place.Reason.{Reason}
 use Rattle.fv_levels.specs.declared.place.Reason.TheVariants as reasons
-use Rattle.fv_levels.proofs.RunLemmas.{levels_more, levels_none, tried_append}
+use Rattle.fv_levels.proofs.RunLemmas.{levels_more, levels_none, tried_append, tried_by}
 
 pub packed_append : (n : ℕ) (xs ys : List SourceForm) → packed_of n (xs ++ ys) ≡ packed_of n xs ++ packed_of (n + length xs) ys
 packed_append n [] ys = let e : n + 0 ≡ n = omega arith in rw e refl
@@ -48,7 +51,7 @@ rows_deep k n s (row ∷ rows) at = (at.0, rows_deep k n s rows at)
 packed_deep : (k n : ℕ) (ss : List SourceForm) → AllByRecursion (AtLevel k) ss → AllByRecursion (PlacedAt k) (packed_of n ss)
 packed_deep k n [] all = tt
 packed_deep k n (s ∷ ss) all =
-    all_join (PlacedAt k) (packed_in n s) (packed_of (n + 1) ss) (rows_deep k n s (packed_rows s.bytes) all.0) (packed_deep k (n + 1) ss all.1)
+    all_join (PlacedAt k) (packed_in n s) (packed_of (n + 1) ss) (rows_deep k n s (packed_rows s) all.0) (packed_deep k (n + 1) ss all.1)
 
 source_deep : (k : ℕ) (place : PackedPlace) (outcome : Result (Way × List ℕ) Reason) → place.depth + suc k ≡ 9 → place.depth < 8
     → AllByRecursion (AtLevel k) (source_if place outcome)
@@ -65,12 +68,14 @@ tried_deep k s x e = go (nat_le 8 x.0.depth) refl where
       let l : x.0.depth < 8 = grind (arith, nat_tests) in
       source_deep k x.0 (outcome_within (contents_limit s) x.1) e l
 
-next_deep : (k : ℕ) (s : Budget) (xs : List (PackedPlace × List ℕ)) → AllByRecursion (PlacedAt (suc k)) xs
+next_deep : (k : ℕ) (s : Progress) (xs : List (PackedPlace × List ℕ)) → AllByRecursion (PlacedAt (suc k)) xs
     → AllByRecursion (AtLevel k) (sources_of (tried s xs))
 next_deep k s [] all = tt
 next_deep k s (x ∷ xs) all =
-    all_join (AtLevel k) (source_if x.0 (outcome_of s x.0.depth x.1)) (sources_of (tried (budget_after s (attempt s x).outcome) xs))
-    (tried_deep k s x all.0) (next_deep k (budget_after s (attempt s x).outcome) xs all.1)
+    let t : Progress = after s (attempt s.left x) in
+    tried_by (λ l. AllByRecursion (AtLevel k) (sources_of l)) s x xs (next_deep k s xs all.1)
+    (all_join (AtLevel k) (source_if x.0 (outcome_of s.left x.0.depth x.1)) (sources_of (tried t xs)) (tried_deep k s.left x all.0)
+    (next_deep k t xs all.1))
 
 -- no sources are deeper than the last level
 none_deeper : (ss : List SourceForm) → AllByRecursion (AtLevel 0) ss → ss ≡ []
@@ -79,15 +84,15 @@ none_deeper (s ∷ ss) all = absurd (omega (arith, all.0.0, all.0.1))
 
 -- ---- the packed sections of all sources are tried
 
-pub all_tried : (k n : ℕ) (s : Budget) (ss : List SourceForm) → AllByRecursion (AtLevel k) ss
+pub all_tried : (k n : ℕ) (s : Progress) (ss : List SourceForm) → AllByRecursion (AtLevel k) ss
     → levels_from k n s ss ≡ tried s (packed_of n (ss ++ sources_of (levels_from k n s ss)))
 all_tried zero n s ss all =
     levels_none n s ss ∙ ap (λ l. tried s (packed_of n (l ++ []))) (sym (none_deeper ss all))
     ∙ ap (λ l. tried s (packed_of n (ss ++ sources_of l))) (sym (levels_none n s ss))
 all_tried (suc k) n s ss all =
     let here : List Attempt = level_of n s ss in
-    let rest : List Attempt = levels_from k (n + length ss) (left_after s here) (sources_of here) in
-    let more = all_tried k (n + length ss) (left_after s here) (sources_of here)
+    let rest : List Attempt = levels_from k (n + length ss) (after_all s here) (sources_of here) in
+    let more = all_tried k (n + length ss) (after_all s here) (sources_of here)
     (next_deep k s (packed_of n ss) (packed_deep (suc k) n ss all)) in
     levels_more k n s ss ∙ ap (λ l. here ++ l) more
     ∙ sym (tried_append s (packed_of n ss) (packed_of (n + length ss) (sources_of here ++ sources_of rest)))
@@ -107,7 +112,7 @@ rows_before m n s (row ∷ rows) l = (l, rows_before m n s rows l)
 packed_before : (m n : ℕ) (ss : List SourceForm) → n + length ss ≤ m → AllByRecursion (Before m) (packed_of n ss)
 packed_before m n [] l = tt
 packed_before m n (s ∷ ss) l =
-    all_join (Before m) (packed_in n s) (packed_of (n + 1) ss) (rows_before m n s (packed_rows s.bytes) (omega (arith, l)))
+    all_join (Before m) (packed_in n s) (packed_of (n + 1) ss) (rows_before m n s (packed_rows s) (omega (arith, l)))
     (packed_before m (n + 1) ss (omega (arith, l)))
 
 after_join : (n : ℕ) (xs ys : List SourceForm) → ComeAfter n xs → ComeAfter (n + length xs) ys → ComeAfter n (xs ++ ys)
@@ -121,32 +126,34 @@ source_after : (n m : ℕ) (place : PackedPlace) (outcome : Result (Way × List 
 source_after n m place (Ok x) ys l within more = (omega (arith, l, within), more (n + 1) (omega (arith, within)))
 source_after n m place (Err r) ys l within more = more n within
 
-next_after : (n m : ℕ) (s : Budget) (xs : List (PackedPlace × List ℕ)) → AllByRecursion (Before m) xs → m ≤ n
+next_after : (n m : ℕ) (s : Progress) (xs : List (PackedPlace × List ℕ)) → AllByRecursion (Before m) xs → m ≤ n
     → ComeAfter n (sources_of (tried s xs))
 next_after n m s [] all within = tt
 next_after n m s (x ∷ xs) all within =
-    source_after n m x.0 (outcome_of s x.0.depth x.1) (sources_of (tried (budget_after s (attempt s x).outcome) xs)) all.0 within
-    (λ k l. next_after k m (budget_after s (attempt s x).outcome) xs all.1 l)
+    let t : Progress = after s (attempt s.left x) in
+    tried_by (λ l. ComeAfter n (sources_of l)) s x xs (next_after n m s xs all.1 within)
+    (source_after n m x.0 (outcome_of s.left x.0.depth x.1) (sources_of (tried t xs)) all.0 within
+    (λ k l. next_after k m t xs all.1 l))
 
-pub all_after : (k n : ℕ) (s : Budget) (ss : List SourceForm) → ComeAfter (n + length ss) (sources_of (levels_from k n s ss))
+pub all_after : (k n : ℕ) (s : Progress) (ss : List SourceForm) → ComeAfter (n + length ss) (sources_of (levels_from k n s ss))
 all_after zero n s ss = rw (levels_none n s ss) tt
 all_after (suc k) n s ss =
     let here : List Attempt = level_of n s ss in
-    let rest : List Attempt = levels_from k (n + length ss) (left_after s here) (sources_of here) in
+    let rest : List Attempt = levels_from k (n + length ss) (after_all s here) (sources_of here) in
     let both : sources_of (levels_from (suc k) n s ss) ≡ sources_of here ++ sources_of rest =
     ap sources_of (levels_more k n s ss) ∙ flat_map-append (λ (a : Attempt). source_if a.place a.outcome) here rest in
     subst (ComeAfter (n + length ss)) (sym both)
     (after_join (n + length ss) (sources_of here) (sources_of rest)
     (next_after (n + length ss) (n + length ss) s (packed_of n ss) (packed_before (n + length ss) n ss (omega arith)) (omega arith))
-    (all_after k (n + length ss) (left_after s here) (sources_of here)))
+    (all_after k (n + length ss) (after_all s here) (sources_of here)))
 
 -- ---- all levels
 
 pub are_levels : (image : List ℕ) (s : Budget) → AreLevels image s (levels_of image s) (attempts_of image s)
 are_levels image s = record {
-  attempted = all_tried 9 0 s (image_source image ∷ []) ((refl, omega arith), tt);
+  attempted = all_tried 9 0 (first_progress s) (image_source image ∷ []) ((refl, omega arith), tt);
   sources = refl;
-  earlier = all_after 9 0 s (image_source image ∷ []);
+  earlier = all_after 9 0 (first_progress s) (image_source image ∷ []);
   closed = refl;
 }
 
@@ -168,7 +175,7 @@ rows_from m n s (row ∷ rows) l = (l, rows_from m n s rows l)
 packed_from : (m n : ℕ) (ss : List SourceForm) → m ≤ n → AllByRecursion (NotBefore m) (packed_of n ss)
 packed_from m n [] l = tt
 packed_from m n (s ∷ ss) l =
-    all_join (NotBefore m) (packed_in n s) (packed_of (n + 1) ss) (rows_from m n s (packed_rows s.bytes) l)
+    all_join (NotBefore m) (packed_in n s) (packed_of (n + 1) ss) (rows_from m n s (packed_rows s) l)
     (packed_from m (n + 1) ss (omega (arith, l)))
 
 -- no source is the contents of a section in a source that does not come before it
@@ -177,15 +184,16 @@ none_own : (n : ℕ) (place : PackedPlace) (outcome : Result (Way × List ℕ) R
 none_own n place (Ok x) ys l f = absurd (omega (arith, l, f.0))
 none_own n place (Err r) ys l f = (refl, f)
 
-none_after : (n : ℕ) (s : Budget) (xs : List (PackedPlace × List ℕ)) → AllByRecursion (NotBefore n) xs
+none_after : (n : ℕ) (s : Progress) (xs : List (PackedPlace × List ℕ)) → AllByRecursion (NotBefore n) xs
     → ComeAfter n (sources_of (tried s xs)) → sources_of (tried s xs) ≡ []
-none_after n s [] all f = refl
-none_after n s (x ∷ xs) all f =
-    let t : Budget = budget_after s (attempt s x).outcome in
-    let own = none_own n x.0 (outcome_of s x.0.depth x.1) (sources_of (tried t xs)) all.0 f in
-    ap (λ l. l ++ sources_of (tried t xs)) own.0 ∙ none_after n t xs all.1 own.1
+none_after n s [] all = λ f. refl
+none_after n s (x ∷ xs) all =
+    let t : Progress = after s (attempt s.left x) in
+    tried_by (λ l. ComeAfter n (sources_of l) → sources_of l ≡ []) s x xs (none_after n s xs all.1) (λ f.
+    let own = none_own n x.0 (outcome_of s.left x.0.depth x.1) (sources_of (tried t xs)) all.0 f in
+    ap (λ l. l ++ sources_of (tried t xs)) own.0 ∙ none_after n t xs all.1 own.1)
 
-pub only_levels : (k n : ℕ) (s : Budget) (ss : List SourceForm) (attempts : List Attempt) → AllByRecursion (AtLevel k) ss
+pub only_levels : (k n : ℕ) (s : Progress) (ss : List SourceForm) (attempts : List Attempt) → AllByRecursion (AtLevel k) ss
     → attempts ≡ tried s (packed_of n (ss ++ sources_of attempts)) → ComeAfter (n + length ss) (sources_of attempts)
     → attempts ≡ levels_from k n s ss
 only_levels zero n s ss attempts all is after =
@@ -199,23 +207,23 @@ only_levels zero n s ss attempts all is after =
     own ∙ ap (λ l. tried s (packed_of n l)) none ∙ sym (levels_none n s ss)
 only_levels (suc k) n s ss attempts all is after =
     let here : List Attempt = level_of n s ss in
-    let rest : List Attempt = tried (left_after s here) (packed_of (n + length ss) (sources_of attempts)) in
+    let rest : List Attempt = tried (after_all s here) (packed_of (n + length ss) (sources_of attempts)) in
     let parts : attempts ≡ here ++ rest =
     is ∙ ap (tried s) (packed_append n ss (sources_of attempts))
     ∙ tried_append s (packed_of n ss) (packed_of (n + length ss) (sources_of attempts)) in
     let both : sources_of attempts ≡ sources_of here ++ sources_of rest =
     ap sources_of parts ∙ flat_map-append (λ (a : Attempt). source_if a.place a.outcome) here rest in
-    let more = only_levels k (n + length ss) (left_after s here) (sources_of here) rest
+    let more = only_levels k (n + length ss) (after_all s here) (sources_of here) rest
     (next_deep k s (packed_of n ss) (packed_deep (suc k) n ss all))
-    (ap (λ l. tried (left_after s here) (packed_of (n + length ss) l)) both)
+    (ap (λ l. tried (after_all s here) (packed_of (n + length ss) l)) both)
     (after_rest (n + length ss) (sources_of here) (sources_of rest) (subst (ComeAfter (n + length ss)) both after)) in
     parts ∙ ap (λ l. here ++ l) more ∙ sym (levels_more k n s ss)
 
 pub only_attempts : (image : List ℕ) (s : Budget) (w : LevelsForm) (attempts : List Attempt) → AreLevels image s w attempts
     → attempts ≡ attempts_of image s
 only_attempts image s w attempts h =
-    only_levels 9 0 s (image_source image ∷ []) attempts ((refl, omega arith), tt)
-    (h.attempted ∙ ap (λ l. tried s (packed_of 0 l)) h.sources) h.earlier
+    only_levels 9 0 (first_progress s) (image_source image ∷ []) attempts ((refl, omega arith), tt)
+    (h.attempted ∙ ap (λ l. tried (first_progress s) (packed_of 0 l)) h.sources) h.earlier
 
 pub only_one : (image : List ℕ) (s : Budget) (w : LevelsForm) (attempts : List Attempt) → AreLevels image s w attempts
     → w ≡ levels_of image s
@@ -224,33 +232,72 @@ only_one image s w attempts h =
     ap₂ (λ a b. record { sources = a; closed = b }) (h.sources ∙ ap (λ l. image_source image ∷ sources_of l) same)
     (h.closed ∙ ap closed_of same)
 
--- ---- each packed section is opened or closed
+-- ---- nothing is left out
 
 count_one : (place : PackedPlace) (outcome : Result (Way × List ℕ) Reason)
     → length (source_if place outcome) + length (closed_if place outcome) ≡ 1
 count_one place (Ok x) = refl
 count_one place (Err r) = refl
 
-count_tried : (s : Budget) (xs : List (PackedPlace × List ℕ))
-    → length (sources_of (tried s xs)) + length (closed_of (tried s xs)) ≡ length xs
-count_tried s [] = refl
-count_tried s (x ∷ xs) =
-    let t : Budget = budget_after s (attempt s x).outcome in
-    let o : Result (Way × List ℕ) Reason = outcome_of s x.0.depth x.1 in
-    omega (
-      arith,
-      count_one x.0 o,
-      count_tried t xs,
-      length-append (source_if x.0 o) (sources_of (tried t xs)),
-      length-append (closed_if x.0 o) (closed_of (tried t xs)),
-    )
+count_each : (attempts : List Attempt) → length (sources_of attempts) + length (closed_of attempts) ≡ length attempts
+count_each [] = refl
+count_each (a ∷ more) = omega (
+  arith,
+  count_one a.place a.outcome,
+  count_each more,
+  length-append (source_if a.place a.outcome) (sources_of more),
+  length-append (closed_if a.place a.outcome) (closed_of more),
+)
 
 pub count_all : (image : List ℕ) (s : Budget) (w : LevelsForm) (attempts : List Attempt) → AreLevels image s w attempts
-    → length w.sources + length w.closed ≡ length (packed_of 0 w.sources) + 1
-count_all image s w attempts h =
-    let many : length (sources_of attempts) + length (closed_of attempts) ≡ length (packed_of 0 w.sources) =
-    ap (λ l. length (sources_of l) + length (closed_of l)) h.attempted ∙ count_tried s (packed_of 0 w.sources) in
-    omega (arith, many, ap length h.sources, ap length h.closed)
+    → length w.sources + length w.closed ≡ length attempts + 1
+count_all image s w attempts h = omega (arith, count_each attempts, ap length h.sources, ap length h.closed)
+
+-- a section lies in the last contents that are stored, or it is tried, or it lies in contents that are stored and that
+-- one of the attempts opens
+abbrev Told : Progress → List Attempt → PackedPlace × List ℕ → Type 0
+Told s attempts x = (is_covered s.stored x.0 ≡ true) ⊎ IsTried x.0 attempts
+
+told_later : (s : Progress) (a : Attempt) (more : List Attempt) (x : PackedPlace × List ℕ) → Told (after s a) more x → Told s (a ∷ more) x
+told_later s a more x told = elim told [
+  | inl covered ↦ go (stored_in a.place a.outcome) refl covered
+  | inr later ↦ inr (inr (inr later))
+] where
+  go : (o : Option Stored) → stored_in a.place a.outcome ≡ o → is_covered (last_stored s.stored o) x.0 ≡ true → Told s (a ∷ more) x
+  go (Some stored) e covered = inr (inr (inl (ap (λ p. is_covered p x.0) e ∙ covered)))
+  go None e covered = inl covered
+
+told_all : (s : Progress) (a : Attempt) (more : List Attempt) (xs : List (PackedPlace × List ℕ)) → AllByRecursion (Told (after s a) more) xs
+    → AllByRecursion (Told s (a ∷ more)) xs
+told_all s a more [] all = tt
+told_all s a more (x ∷ xs) all = (told_later s a more x all.0, told_all s a more xs all.1)
+
+all_told : (s : Progress) (xs : List (PackedPlace × List ℕ)) → AllByRecursion (Told s (tried s xs)) xs
+all_told s [] = tt
+all_told s (x ∷ xs) = go (is_covered s.stored x.0) refl (all_told s xs) (all_told (after s (attempt s.left x)) xs) where
+  go : (v : Bool) → is_covered s.stored x.0 ≡ v → AllByRecursion (Told s (tried s xs)) xs
+      → AllByRecursion (Told (after s (attempt s.left x)) (tried (after s (attempt s.left x)) xs)) xs
+      → AllByRecursion (Told s (if v then tried s xs else attempt s.left x ∷ tried (after s (attempt s.left x)) xs)) (x ∷ xs)
+  go true e covered here = (inl e, covered)
+  go false e covered here = (inr (inl refl), told_all s (attempt s.left x) (tried (after s (attempt s.left x)) xs) xs here)
+
+tried_only : (s : Budget) (attempts : List Attempt) (xs : List (PackedPlace × List ℕ))
+    → AllByRecursion (Told (first_progress s) attempts) xs → AllByRecursion (λ x. IsTried x.0 attempts) xs
+tried_only s attempts [] all = tt
+tried_only s attempts (x ∷ xs) all = (
+  elim all.0 [
+    | inl covered ↦ cc
+    | inr is ↦ is
+  ],
+  tried_only s attempts xs all.1,
+)
+
+pub each_tried : (image : List ℕ) (s : Budget) (w : LevelsForm) (attempts : List Attempt) → AreLevels image s w attempts
+    → AllByRecursion (λ x. IsTried x.0 attempts) (packed_of 0 w.sources)
+each_tried image s w attempts h =
+    tried_only s attempts (packed_of 0 w.sources)
+    (subst (λ l. AllByRecursion (Told (first_progress s) l) (packed_of 0 w.sources)) (sym h.attempted)
+    (all_told (first_progress s) (packed_of 0 w.sources)))
 
 -- ---- what an opened section contains
 
@@ -285,16 +332,17 @@ few_out s place (Err (reasons.Fault f)) ys some h = omega (arith, h)
 few_out s place (Err reasons.TooDeep) ys some h = h
 few_out s place (Err reasons.Spent) ys some h = h
 
-few_tried : (s : Budget) (xs : List (PackedPlace × List ℕ)) → 65536 * length (sources_of (tried s xs)) ≤ s.left + 65535
+few_tried : (s : Progress) (xs : List (PackedPlace × List ℕ)) → 65536 * length (sources_of (tried s xs)) ≤ s.left.left + 65535
 few_tried s [] = omega arith
 few_tried s (x ∷ xs) =
-    let t : Budget = budget_after s (attempt s x).outcome in
-    few_out s x.0 (outcome_of s x.0.depth x.1) (sources_of (tried t xs))
-    (λ y is. let by = opened_by s x.0.depth x.1 y is in left_some s by.0 by.1) (few_tried t xs)
+    let t : Progress = after s (attempt s.left x) in
+    tried_by (λ l. 65536 * length (sources_of l) ≤ s.left.left + 65535) s x xs (few_tried s xs)
+    (few_out s.left x.0 (outcome_of s.left x.0.depth x.1) (sources_of (tried t xs))
+    (λ y is. let by = opened_by s.left x.0.depth x.1 y is in left_some s.left by.0 by.1) (few_tried t xs))
 
 pub few_sources : (image : List ℕ) (s : Budget) (w : LevelsForm) (attempts : List Attempt) → AreLevels image s w attempts
     → 65536 * length w.sources ≤ s.left + 131071
 few_sources image s w attempts h =
     let few : 65536 * length (sources_of attempts) ≤ s.left + 65535 =
-    subst (λ l. 65536 * length (sources_of l) ≤ s.left + 65535) (sym h.attempted) (few_tried s (packed_of 0 w.sources)) in
+    subst (λ l. 65536 * length (sources_of l) ≤ s.left + 65535) (sym h.attempted) (few_tried (first_progress s) (packed_of 0 w.sources)) in
     omega (arith, few, ap length h.sources)

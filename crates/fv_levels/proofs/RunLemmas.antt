@@ -1,23 +1,41 @@
 -- Attempts one after another: the attempts for two lists of sections are the attempts for the first list, and then, with
 -- the budget that they leave, the attempts for the second list (`goes_more`).
 use Rattle.std.proofs.Common.{◌≡◌, ◌+◌, ◌<◌, ◌≤◌, ℕ, zero, suc, List, [], ◌∷◌, ◌++◌, length, map, take, drop, slice_get, Some}
-use Rattle.std.proofs.Common.{ap, ap₂, sym, refl, ◌∙◌, append_assoc, append-nil, arith}
+use Rattle.std.proofs.Common.{Bool, true, false, if◌then◌else◌, ap, ap₂, sym, refl, ◌∙◌, append_assoc, append-nil, arith}
 use Rattle.fv_base.proofs.Laws.{drop_at, get_or, length-append, length-drop, map_more}
 use Rattle.fv_survey.specs.declared.row.Row.{Row}
 use Rattle.fv_base.proofs.Laws.{flat_map-append}
+use Rattle.fv_levels.specs.declared.attempt.Progress.{Progress}
+use Rattle.fv_levels.specs.Words.{Attempt, LevelsForm, SourceForm, after, after_all, attempt, closed_if, closed_of, is_covered, level_of}
 use Rattle.fv_budget.specs.declared.budget.Budget.{Budget}
-use Rattle.fv_levels.specs.Words.{Attempt, LevelsForm, SourceForm, attempt, budget_after, closed_if, closed_of, left_after, level_of}
-use Rattle.fv_levels.specs.Words.{image_source, levels_from, levels_of, levels_with, packed_of, source_if, sources_of, tried}
+use Rattle.fv_levels.specs.Words.{first_progress, image_source, levels_from, levels_of, levels_with, packed_of, source_if, sources_of, tried}
 use Rattle.fv_levels.specs.inner.Opening.{Continues, GoesOver}
 use Rattle.fv_levels.specs.declared.place.PackedPlace.{PackedPlace}
 
-pub tried_append : (s : Budget) (xs ys : List (PackedPlace × List ℕ)) → tried s (xs ++ ys) ≡ tried s xs ++ tried (left_after s (tried s xs)) ys
-tried_append s [] ys = refl
-tried_append s (x ∷ xs) ys = ap (λ l. attempt s x ∷ l) (tried_append (budget_after s (attempt s x).outcome) xs ys)
+-- a property of the attempts for some sections: the first section lies in contents that are stored, or is tried
+pub tried_by : (P : List Attempt → Type 0) (s : Progress) (x : PackedPlace × List ℕ) (xs : List (PackedPlace × List ℕ))
+    → P (tried s xs) → P (attempt s.left x ∷ tried (after s (attempt s.left x)) xs) → P (tried s (x ∷ xs))
+tried_by P s x xs covered here = go (is_covered s.stored x.0) where
+  go : (v : Bool) → P (if v then tried s xs else attempt s.left x ∷ tried (after s (attempt s.left x)) xs)
+  go true = covered
+  go false = here
 
-pub left_append : (s : Budget) (xs ys : List Attempt) → left_after s (xs ++ ys) ≡ left_after (left_after s xs) ys
+pub tried_append : (s : Progress) (xs ys : List (PackedPlace × List ℕ)) → tried s (xs ++ ys) ≡ tried s xs ++ tried (after_all s (tried s xs)) ys
+tried_append s [] ys = refl
+tried_append s (x ∷ xs) ys =
+    let first : Attempt = attempt s.left x in go (is_covered s.stored x.0) (tried_append s xs ys) (tried_append (after s first) xs ys) where
+      go : (v : Bool) → tried s (xs ++ ys) ≡ tried s xs ++ tried (after_all s (tried s xs)) ys
+          → tried (after s (attempt s.left x)) (xs ++ ys) ≡ tried (after s (attempt s.left x)) xs
+          ++ tried (after_all (after s (attempt s.left x)) (tried (after s (attempt s.left x)) xs)) ys
+          → (if v then tried s (xs ++ ys) else attempt s.left x ∷ tried (after s (attempt s.left x)) (xs ++ ys))
+          ≡ (if v then tried s xs else attempt s.left x ∷ tried (after s (attempt s.left x)) xs)
+          ++ tried (after_all s (if v then tried s xs else attempt s.left x ∷ tried (after s (attempt s.left x)) xs)) ys
+      go true covered here = covered
+      go false covered here = ap (λ l. attempt s.left x ∷ l) here
+
+pub left_append : (s : Progress) (xs ys : List Attempt) → after_all s (xs ++ ys) ≡ after_all (after_all s xs) ys
 left_append s [] ys = refl
-left_append s (x ∷ xs) ys = left_append (budget_after s x.outcome) xs ys
+left_append s (x ∷ xs) ys = left_append (after s x) xs ys
 
 pub with_append : (w : LevelsForm) (xs ys : List Attempt) → levels_with w (xs ++ ys) ≡ levels_with (levels_with w xs) ys
 with_append w xs ys =
@@ -30,25 +48,25 @@ with_append w xs ys =
 pub with_none : (w : LevelsForm) → levels_with w [] ≡ w
 with_none w = ap₂ (λ a b. record { sources = a; closed = b }) (append-nil w.sources) (append-nil w.closed)
 
-pub goes_none : (w : LevelsForm) (s : Budget) → GoesOver w s [] w s
-goes_none w s = record { levels = sym (with_none w); budget = refl }
+pub goes_none : (w : LevelsForm) (s : Progress) → GoesOver w s [] w s
+goes_none w s = record { levels = sym (with_none w); progress = refl }
 
-pub goes_more : (a b c : LevelsForm) (s t u : Budget) (xs ys : List (PackedPlace × List ℕ)) → GoesOver a s xs b t → GoesOver b t ys c u
+pub goes_more : (a b c : LevelsForm) (s t u : Progress) (xs ys : List (PackedPlace × List ℕ)) → GoesOver a s xs b t → GoesOver b t ys c u
     → GoesOver a s (xs ++ ys) c u
 goes_more a b c s t u xs ys g h = record {
-  levels = h.levels ∙ ap₂ (λ w l. levels_with w (tried l ys)) g.levels g.budget
-      ∙ sym (with_append a (tried s xs) (tried (left_after s (tried s xs)) ys)) ∙ ap (levels_with a) (sym (tried_append s xs ys));
-  budget = h.budget ∙ ap (λ l. left_after l (tried l ys)) g.budget
-      ∙ sym (left_append s (tried s xs) (tried (left_after s (tried s xs)) ys)) ∙ ap (left_after s) (sym (tried_append s xs ys));
+  levels = h.levels ∙ ap₂ (λ w l. levels_with w (tried l ys)) g.levels g.progress
+      ∙ sym (with_append a (tried s xs) (tried (after_all s (tried s xs)) ys)) ∙ ap (levels_with a) (sym (tried_append s xs ys));
+  progress = h.progress ∙ ap (λ l. after_all l (tried l ys)) g.progress
+      ∙ sym (left_append s (tried s xs) (tried (after_all s (tried s xs)) ys)) ∙ ap (after_all s) (sym (tried_append s xs ys));
 }
 
 -- one more row
-pub goes_row : (f : Row → PackedPlace × List ℕ) (rows : List Row) (i : ℕ) (d : Row) (a b c : LevelsForm) (s t u : Budget) → i < length rows
+pub goes_row : (f : Row → PackedPlace × List ℕ) (rows : List Row) (i : ℕ) (d : Row) (a b c : LevelsForm) (s t u : Progress) → i < length rows
     → GoesOver a s (map f (take i rows)) b t → GoesOver b t (f (get_or rows i d) ∷ []) c u → GoesOver a s (map f (take (i + 1) rows)) c u
 goes_row f rows i d a b c s t u l g h =
     rw (map_more f rows i d l) (goes_more a b c s t u (map f (take i rows)) (f (get_or rows i d) ∷ []) g h)
 
-pub goes_on : (a b : LevelsForm) (s t : Budget) (xs : List (PackedPlace × List ℕ)) → GoesOver a s xs b t → Continues a b
+pub goes_on : (a b : LevelsForm) (s t : Progress) (xs : List (PackedPlace × List ℕ)) → GoesOver a s xs b t → Continues a b
 goes_on a b s t xs g = record { more = sources_of (tried s xs); sources = ap (λ w. w.sources) g.levels }
 
 pub continues_more : (a b c : LevelsForm) → Continues a b → Continues b c → Continues a c
@@ -76,23 +94,23 @@ some_source (x ∷ xs) (suc i) l = let r = some_source xs i (omega (arith, l)) i
       rw e r.2,
     )
 
-pub levels_more : (k n : ℕ) (s : Budget) (sources : List SourceForm) → levels_from (suc k) n s sources
-    ≡ level_of n s sources ++ levels_from k (n + length sources) (left_after s (level_of n s sources)) (sources_of (level_of n s sources))
+pub levels_more : (k n : ℕ) (s : Progress) (sources : List SourceForm) → levels_from (suc k) n s sources
+    ≡ level_of n s sources ++ levels_from k (n + length sources) (after_all s (level_of n s sources)) (sources_of (level_of n s sources))
 unfolding levels_from
 levels_more k n s sources = refl
 
-pub levels_none : (n : ℕ) (s : Budget) (sources : List SourceForm) → levels_from 0 n s sources ≡ []
+pub levels_none : (n : ℕ) (s : Progress) (sources : List SourceForm) → levels_from 0 n s sources ≡ []
 unfolding levels_from
 levels_none n s sources = refl
 
 -- ---- levels
 
 pub start_of : (w : LevelsForm) (image : List ℕ) (s : Budget) → w.sources ≡ image_source image ∷ [] → w.closed ≡ []
-    → levels_with w (levels_from 9 0 s w.sources) ≡ levels_of image s
-start_of w image s e f = ap₂ (λ a b. levels_with (record { sources = a; closed = b }) (levels_from 9 0 s a)) e f
+    → levels_with w (levels_from 9 0 (first_progress s) w.sources) ≡ levels_of image s
+start_of w image s e f = ap₂ (λ a b. levels_with (record { sources = a; closed = b }) (levels_from 9 0 (first_progress s) a)) e f
 
 -- the level of the sources from an index on, and then the levels of the sources after these
-pub level_step : (w v all : LevelsForm) (k from next : ℕ) (s t : Budget) → from ≤ length w.sources → next ≡ length w.sources
+pub level_step : (w v all : LevelsForm) (k from next : ℕ) (s t : Progress) → from ≤ length w.sources → next ≡ length w.sources
     → GoesOver w s (packed_of from (drop from w.sources)) v t → levels_with w (levels_from (suc k) from s (drop from w.sources)) ≡ all
     → (next ≤ length v.sources) × (levels_with v (levels_from k next t (drop next v.sources)) ≡ all)
 level_step w v all k from next s t within is g h =
@@ -104,11 +122,11 @@ level_step w v all k from next s t within is g h =
       omega (arith, long, is),
       ap (λ x. levels_with x (levels_from k next t (drop next v.sources))) g.levels
           ∙ ap (λ n. levels_with (levels_with w here) (levels_from k n t (drop next v.sources))) (sym count)
-          ∙ ap (λ l. levels_with (levels_with w here) (levels_from k (from + length (drop from w.sources)) l (drop next v.sources))) g.budget
-          ∙ ap (λ l. levels_with (levels_with w here) (levels_from k (from + length (drop from w.sources)) (left_after s here) l)) front
-          ∙ sym (with_append w here (levels_from k (from + length (drop from w.sources)) (left_after s here) (sources_of here)))
+          ∙ ap (λ l. levels_with (levels_with w here) (levels_from k (from + length (drop from w.sources)) l (drop next v.sources))) g.progress
+          ∙ ap (λ l. levels_with (levels_with w here) (levels_from k (from + length (drop from w.sources)) (after_all s here) l)) front
+          ∙ sym (with_append w here (levels_from k (from + length (drop from w.sources)) (after_all s here) (sources_of here)))
           ∙ sym (ap (levels_with w) (levels_more k from s (drop from w.sources))) ∙ h,
     )
 
-pub level_end : (w all : LevelsForm) (n : ℕ) (s : Budget) (sources : List SourceForm) → levels_with w (levels_from 0 n s sources) ≡ all → w ≡ all
+pub level_end : (w all : LevelsForm) (n : ℕ) (s : Progress) (sources : List SourceForm) → levels_with w (levels_from 0 n s sources) ≡ all → w ≡ all
 level_end w all n s sources h = sym (with_none w) ∙ sym (ap (levels_with w) (levels_none n s sources)) ∙ h

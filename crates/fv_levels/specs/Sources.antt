@@ -4,7 +4,7 @@ use Rattle.std.specs.Prelude.{ℕ, ◌+◌, ◌&&◌, Bool, true, false, List, [
 use Rattle.std.specs.List.{filter}
 use Rattle.fv_base.specs.Words.{field}
 use Rattle.fv_budget.specs.Words.{is_packed}
-use Rattle.fv_survey.specs.Words.{survey_of}
+use Rattle.fv_survey.specs.Words.{survey_of, survey_of_sections}
 use Rattle.fv_survey.specs.declared.row.Row.{Row}
 use Rattle.fv_survey.specs.declared.row.RowKind.{RowKind}
 use Rattle.fv_survey.specs.declared.row.RowKind.TheVariants as kinds
@@ -38,6 +38,14 @@ pub record LevelsForm : Type 0 where
   pub sources : List SourceForm
   pub closed : List Closed
 
+-- the rows of the survey of a source: of the image, or of the contents of a section, which are a stream of sections
+abbrev pub rows_as : Option Origin → List ℕ → List Row
+rows_as None b = survey_of b
+rows_as (Some origin) b = survey_of_sections b
+
+abbrev pub rows_of : SourceForm → List Row
+rows_of s = rows_as s.origin s.bytes
+
 -- ---- packed sections
 
 -- rows of this kind are about sections
@@ -50,9 +58,9 @@ is_section _ = false
 abbrev pub is_packed_row : Row → Bool
 is_packed_row row = is_section row.kind && is_packed row.code
 
--- the rows of the packed sections of these bytes, in the order of the rows of their survey
-abbrev pub packed_rows : List ℕ → List Row
-packed_rows b = filter is_packed_row (survey_of b)
+-- the rows of the packed sections of a source, in the order of the rows of its survey
+abbrev pub packed_rows : SourceForm → List Row
+packed_rows s = filter is_packed_row (rows_of s)
 
 -- the packed section of a row of source n: where it is, and its bytes
 abbrev pub section_in : ℕ → SourceForm → Row → PackedPlace × List ℕ
@@ -63,7 +71,7 @@ section_in n s row = (
 
 -- the packed sections of source n
 abbrev pub packed_in : ℕ → SourceForm → List (PackedPlace × List ℕ)
-packed_in n s = map (section_in n s) (packed_rows s.bytes)
+packed_in n s = map (section_in n s) (packed_rows s)
 
 -- the packed sections of some sources, of which the first has the number n: source after source
 abbrev pub packed_of : ℕ → List SourceForm → List (PackedPlace × List ℕ)

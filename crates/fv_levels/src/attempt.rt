@@ -3,10 +3,11 @@
 ghost use Rattle.std.specs.Prelude.{◌≡◌, Some, IfOk, IfErr};
 ghost use Rattle.fv_base.specs.Words.{out_of_memory};
 ghost use Rattle.fv_levels.specs.inner.Opening.{HasRoom};
-ghost use Rattle.fv_levels.specs.Attempts.{budget_after, outcome_of, outcome_within};
+ghost use Rattle.fv_levels.specs.Attempts.{after, budget_after, first_progress, is_covered, lies_in, outcome_of, outcome_within};
+ghost use Rattle.fv_levels.specs.Attempts.{stored_in};
 ghost use Rattle.fv_levels.specs.inner.Outcomes.{outcome_form};
 
-use crate::place::Reason;
+use crate::place::{PackedPlace, Reason};
 use fv_base::{Fault, FaultKind};
 use fv_budget::{Budget, NESTING_LIMIT, ran_out_opening};
 use fv_open::{Way, open};
@@ -59,13 +60,90 @@ pub(crate) fn attempt(
     }
 }
 
-/// Returns the budget after an attempt with this outcome.
-pub(crate) fn budget_after(budget: Budget, outcome: &Outcome) -> Budget
+// Returns the budget after an attempt with this outcome.
+fn budget_after(budget: Budget, outcome: &Outcome) -> Budget
     ensures { result ≡ budget_after budget (outcome_form outcome.now) }
 {
     match outcome {
         Outcome::Opened(_, contents) => budget.after_opening(contents.len()),
         Outcome::Closed(Reason::Fault(fault)) => budget.after_fault(*fault),
         Outcome::Closed(_) => budget,
+    }
+}
+
+/// The contents of a section that are stored as they are, at its end.
+#[derive(Clone, Copy)]
+pub(crate) struct Stored {
+    /// The place of the section.
+    pub(crate) section: PackedPlace,
+    /// The length of the contents in bytes.
+    pub(crate) length: u64,
+}
+
+impl Stored {
+    // Returns whether the section at a place lies in the contents.
+    fn has(&self, place: &PackedPlace) -> bool
+        ensures { result ≡ lies_in self.now place.now }
+    {
+        let before = self.section.length.saturating_sub(self.length);
+        let at = place.offset.saturating_sub(self.section.offset);
+        self.section.source == place.source && (before <= at && at < self.section.length)
+    }
+}
+
+// Returns the contents of the section at this place, if they are stored as they are.
+fn stored_in(place: PackedPlace, outcome: &Outcome) -> Option<Stored>
+    ensures { result ≡ stored_in place (outcome_form outcome.now) }
+{
+    match outcome {
+        Outcome::Opened(way, contents) if !way.is_decoded() => Some(Stored {
+            section: place,
+            length: contents.len() as u64,
+        }),
+        _ => None,
+    }
+}
+
+/// How far the attempts to open packed sections are.
+#[derive(Clone, Copy)]
+pub(crate) struct Progress {
+    /// What may still be opened.
+    pub(crate) left: Budget,
+    /// The last contents that are stored as they are.
+    pub(crate) stored: Option<Stored>,
+}
+
+impl Progress {
+    /// Returns what a walk through packed sections begins with.
+    pub(crate) fn first(budget: Budget) -> Progress
+        ensures { result ≡ first_progress budget }
+    {
+        Progress {
+            left: budget,
+            stored: None,
+        }
+    }
+
+    /// Returns whether the section at a place lies in the last contents that are stored as they are.
+    pub(crate) fn covers(&self, place: &PackedPlace) -> bool
+        ensures { result ≡ is_covered self.now.stored place.now }
+    {
+        match self.stored {
+            Some(stored) => stored.has(place),
+            None => false,
+        }
+    }
+
+    /// Returns the progress after an attempt to open the section at this place.
+    pub(crate) fn after(&self, place: PackedPlace, outcome: &Outcome) -> Progress
+        ensures { result ≡ after self.now (record { place = place; outcome = outcome_form outcome.now }) }
+    {
+        Progress {
+            left: budget_after(self.left, outcome),
+            stored: match stored_in(place, outcome) {
+                Some(stored) => Some(stored),
+                None => self.stored,
+            },
+        }
     }
 }

@@ -1,12 +1,13 @@
 //! Laws of the definitions. The functions do nothing: their contracts are the laws.
 
 ghost use Rattle.std.specs.Prelude.{◌≡◌, ◌≤◌, ◌+◌, ◌*◌, ℕ, List, length, Ok, Some};
+ghost use Rattle.std.specs.List.{AllByRecursion};
 ghost use Rattle.fv_budget.specs.Words.{contents_limit};
 ghost use Rattle.fv_budget.specs.declared.budget.Budget.{Budget};
 ghost use Rattle.fv_open.specs.Words.{opened};
 ghost use Rattle.fv_open.specs.declared.way.Way.{Way};
 ghost use Rattle.fv_levels.specs.AllLevels.{AreLevels, attempts_of, levels_of};
-ghost use Rattle.fv_levels.specs.Attempts.{Attempt, outcome_of};
+ghost use Rattle.fv_levels.specs.Attempts.{Attempt, IsTried, outcome_of};
 ghost use Rattle.fv_levels.specs.Sources.{LevelsForm, packed_of};
 
 /// An image has exactly one list of sources and one list of closed sections, within a budget.
@@ -16,11 +17,14 @@ pub fn one_result()
         → levels ≡ levels_of image s }
 {}
 
-/// Each packed section of each source is opened, and then its contents are a source, or it is closed:
-/// the sources after the image and the closed sections together are as many as the packed sections.
+/// Nothing is left out: each packed section of each source is tried, or lies in contents that are
+/// stored in the source as they are, which are a source. Each attempt gives a source or a closed
+/// section.
 pub fn no_section_is_missing()
-    ensures { (image : List ℕ) (s : Budget) (levels : LevelsForm) (attempts : List Attempt) → AreLevels image s levels attempts
-        → length levels.sources + length levels.closed ≡ length (packed_of 0 levels.sources) + 1 }
+    ensures tried { (image : List ℕ) (s : Budget) (levels : LevelsForm) (attempts : List Attempt) → AreLevels image s levels attempts
+        → AllByRecursion (λ x. IsTried x.0 attempts) (packed_of 0 levels.sources) }
+    ensures count { (image : List ℕ) (s : Budget) (levels : LevelsForm) (attempts : List Attempt) → AreLevels image s levels attempts
+        → length levels.sources + length levels.closed ≡ length attempts + 1 }
 {}
 
 /// The number of sources is at most the number of bytes in the budget divided by 65,536, plus 2,

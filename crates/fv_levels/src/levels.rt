@@ -1,16 +1,17 @@
 //! The sources of an image at every level, and the packed sections that are not opened.
 
-ghost use Rattle.std.specs.Prelude.{◌≡◌, ◌≤◌, ◌<◌, [], ◌∷◌, length, option_map, slice_get, IfErr, IfSome, OnOk};
+ghost use Rattle.std.specs.Prelude.{◌≡◌, ◌≤◌, ◌<◌, [], ◌∷◌, length, option_map, slice_get, IfErr, IfOk, IfSome, OnOk};
 ghost use Rattle.fv_base.specs.Words.{out_of_memory};
 ghost use Rattle.fv_levels.specs.Attempts.{levels_with};
 ghost use Rattle.fv_levels.specs.inner.Outcomes.{outcome_form};
 ghost use Rattle.fv_levels.specs.inner.Opening.{HasRoom};
-ghost use Rattle.fv_levels.specs.Sources.{image_source, source_form};
+ghost use Rattle.fv_levels.specs.Sources.{image_source, rows_of, source_form};
 
 use crate::attempt::Outcome;
 use crate::opened::OpenedSection;
 use crate::place::{Closed, Origin, PackedPlace};
 use fv_base::Fault;
+use fv_survey::SurveyWalk;
 use std::alloc::Global;
 use std::marker::Model;
 
@@ -23,6 +24,24 @@ pub struct Source<'a> {
     pub bytes: &'a [u8],
     /// The section that the bytes are the contents of. None for the image.
     pub origin: Option<Origin>,
+}
+
+impl<'a> Source<'a> {
+    /// Starts a walk over the rows of the survey of the source: of the image, or of the contents of a
+    /// section, which are a stream of sections. (PI specification, volume 3, section 3.2.)
+    ///
+    /// # Errors
+    ///
+    /// OutOfMemory at offset 0.
+    pub fn walk(&self, alloc: Global) -> Result<SurveyWalk<'a>, Fault>
+        ensures rows { IfOk result (λ w. w ≡ rows_of (source_form self.now)) }
+        ensures err { IfErr result (λ f. f ≡ out_of_memory) }
+    {
+        match self.origin {
+            None => SurveyWalk::of(alloc, self.bytes),
+            Some(_) => SurveyWalk::of_sections(alloc, self.bytes),
+        }
+    }
 }
 
 /// All levels of an image: the sources, which are the image and the contents of the packed sections

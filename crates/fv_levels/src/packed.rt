@@ -2,10 +2,11 @@
 
 ghost use Rattle.std.specs.Prelude.{◌≡◌, IfOk, IfErr};
 ghost use Rattle.fv_base.specs.Words.{field, out_of_memory};
-ghost use Rattle.fv_levels.specs.Sources.{is_packed_row, packed_rows};
+ghost use Rattle.fv_levels.specs.Sources.{is_packed_row, packed_rows, source_form};
 
+use crate::levels::Source;
 use fv_base::Fault;
-use fv_survey::{Row, RowKind, SurveyWalk};
+use fv_survey::{Row, RowKind};
 use std::alloc::Global;
 
 const COMPRESSION: u8 = 0x01;
@@ -19,12 +20,12 @@ fn is_packed_row(row: &Row) -> bool
     matches!(row.kind, RowKind::Section) && (row.code == COMPRESSION || row.code == GUID_DEFINED)
 }
 
-/// Returns the rows of the packed sections among the rows of a survey.
-pub(crate) fn packed_rows(alloc: Global, bytes: &[u8]) -> Result<Vec<Row>, Fault>
-    ensures rows { IfOk result (λ rows. rows.items ≡ packed_rows bytes.now) }
+/// Returns the rows of the packed sections among the rows of the survey of a source.
+pub(crate) fn packed_rows(alloc: Global, source: &Source<'_>) -> Result<Vec<Row>, Fault>
+    ensures rows { IfOk result (λ rows. rows.items ≡ packed_rows (source_form source.now)) }
     ensures err { IfErr result (λ f. f ≡ out_of_memory) }
 {
-    let mut walk = SurveyWalk::of(alloc, bytes)?;
+    let mut walk = source.walk(alloc)?;
     let mut rows = Vec::new(alloc);
     while let Some(row) = walk.next_row(alloc)? {
         if is_packed_row(&row) {

@@ -6,7 +6,7 @@ ghost use Rattle.fv_section.specs.Words.{frame_form};
 ghost use Rattle.fv_opened.specs.OpenedTexts.{ContentsOver, OpenedListText, PackedText, PartText};
 ghost use Rattle.fv_opened.specs.inner.OpenedPuts.{AreShallow, HasRoom, PutsOpenedRows};
 
-use crate::packed_text::{put_unlisted, put_unopened, put_way};
+use crate::packed_text::{put_spent, put_too_deep, put_unlisted, put_unopened, put_way};
 use fv_base::Sink;
 use fv_budget::{Budget, NESTING_LIMIT, packed_frame};
 use fv_lines::{put_row, put_section_start};
@@ -70,11 +70,11 @@ fn put_packed<S: Sink>(
         × S.takes out.old text out.new }
 {
     if level.deeper == 0 {
-        out.put(b" not opened: nested too deep\n");
+        put_too_deep(out);
         return budget;
     }
     let Some(limit) = budget.limit() else {
-        out.put(b" not opened: total limit reached\n");
+        put_spent(out);
         return budget;
     };
     match open_frame(alloc, frame, limit) {

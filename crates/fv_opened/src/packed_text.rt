@@ -1,7 +1,8 @@
 //! The end of the line of a packed section.
 
 ghost use Rattle.std.specs.Prelude.{◌≡◌};
-ghost use Rattle.fv_opened.specs.OpenedTexts.{caution_text, fault_text, opened_text, unlisted_text, unopened_text, way_text};
+ghost use Rattle.fv_opened.specs.OpenedTexts.{caution_text, fault_text, opened_text, spent_text, too_deep_text, unlisted_text};
+ghost use Rattle.fv_opened.specs.OpenedTexts.{unopened_text, way_text};
 
 use fv_base::{Fault, Sink};
 use fv_budget::{ran_out_opening, ran_out_reading};
@@ -36,8 +37,9 @@ fn caution_words(way: Way) -> &'static [u8]
     }
 }
 
-/// Puts the way that gave the contents of a section, and their length in bytes.
-pub(crate) fn put_way<S: Sink>(out: &mut S, way: Way, length: usize)
+/// Puts the way that gave the contents of a section, and their length in bytes. Says of a signature
+/// that it is not verified.
+pub fn put_way<S: Sink>(out: &mut S, way: Way, length: usize)
     ensures { S.takes out.old (opened_text way length) out.new }
 {
     out.put(way_words(way));
@@ -56,8 +58,9 @@ fn put_fault<S: Sink>(out: &mut S, number: u8, offset: u64)
     out.put(b"\n");
 }
 
-/// Puts why a section is not opened, and ends its line.
-pub(crate) fn put_unopened<S: Sink>(out: &mut S, fault: OpenFault)
+/// Puts the fault because of which a section is not opened, and ends the section's line. The offset of
+/// the fault counts from the first byte of the section, and is marked with `+`.
+pub fn put_unopened<S: Sink>(out: &mut S, fault: OpenFault)
     ensures { S.takes out.old (unopened_text fault) out.new }
 {
     if ran_out_opening(fault.kind) {
@@ -66,6 +69,20 @@ pub(crate) fn put_unopened<S: Sink>(out: &mut S, fault: OpenFault)
         out.put(b" not opened: section ");
         put_fault(out, fault.number(), fault.offset);
     }
+}
+
+/// Puts that a section is not opened because 8 opened sections are around it, and ends its line.
+pub fn put_too_deep<S: Sink>(out: &mut S)
+    ensures { S.takes out.old too_deep_text out.new }
+{
+    out.put(b" not opened: nested too deep\n");
+}
+
+/// Puts that a section is not opened because nothing is left of the budget, and ends its line.
+pub fn put_spent<S: Sink>(out: &mut S)
+    ensures { S.takes out.old spent_text out.new }
+{
+    out.put(b" not opened: total limit reached\n");
 }
 
 /// Puts why the contents of a section are not listed, and ends the section's line.

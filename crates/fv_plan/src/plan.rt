@@ -52,6 +52,13 @@ pub enum Command {
         /// The second volume.
         second: VolumeFile,
     },
+    /// Report whether two images mean the same at every level, also in their packed sections.
+    Same {
+        /// The file of the first image.
+        first: String,
+        /// The file of the second image.
+        second: String,
+    },
 }
 
 /// A task with one input.
@@ -85,6 +92,8 @@ pub enum Task {
     Scan,
     /// List what each byte of an input is, whatever is wrong with it.
     Survey,
+    /// List what each byte of an input is, and of the contents of its packed sections at every level.
+    SurveyOpened,
 }
 
 /// The part of a volume that is extracted.
@@ -127,6 +136,7 @@ impl Plan {
             | Command::Hobs { file, .. }
             | Command::Open { file, .. } => file.as_ref(),
             Command::Compare { first, .. } => Some(&first.path),
+            Command::Same { first, .. } => Some(first),
         }
     }
 
@@ -138,6 +148,7 @@ impl Plan {
             Command::Single { .. } | Command::Open { .. } => None,
             Command::Hobs { image, .. } => image.as_ref().map(|image| &image.path),
             Command::Compare { second, .. } => Some(&second.path),
+            Command::Same { second, .. } => Some(second),
         }
     }
 }

@@ -97,10 +97,13 @@ fn plans() -> &'static str {
     fv scan --hex: Plan { hex: true, command: Single { task: Scan, at: None, file: None } }\n\
     fv survey a.bin: Plan { hex: false, command: Single { task: Survey, at: None, file: Some(\"a.bin\") } }\n\
     fv survey --hex: Plan { hex: true, command: Single { task: Survey, at: None, file: None } }\n\
+    fv survey --open a.bin: Plan { hex: false, command: Single { task: SurveyOpened, at: None, file: Some(\"a.bin\") } }\n\
     fv compare a.fv b.fv: Plan { hex: false, command: Compare { first: VolumeFile { path: \"a.fv\", at: None }, \
         second: VolumeFile { path: \"b.fv\", at: None } } }\n\
     fv compare a.txt --hex b.txt: Plan { hex: true, command: Compare { first: VolumeFile { path: \"a.txt\", at: \
         None }, second: VolumeFile { path: \"b.txt\", at: None } } }\n\
+    fv same a.bin b.bin: Plan { hex: false, command: Same { first: \"a.bin\", second: \"b.bin\" } }\n\
+    fv same --hex a.txt b.txt: Plan { hex: true, command: Same { first: \"a.txt\", second: \"b.txt\" } }\n\
     fv check: Plan { hex: false, command: Single { task: Check, at: None, file: None } }\n\
     fv check --all a.bin: Plan { hex: false, command: Single { task: CheckAll, at: None, file: Some(\"a.bin\") } }\n\
     fv check --hex a.txt: Plan { hex: true, command: Single { task: Check, at: None, file: Some(\"a.txt\") } }\n\

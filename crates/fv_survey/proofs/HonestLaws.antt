@@ -38,14 +38,14 @@ use Rattle.fv_survey.specs.Words.{LostInSection, LostInVolume, LostSections, Por
 use Rattle.fv_survey.specs.Words.{UnreadBreaks, VolumeBreaks, after_as, ahead, begins_section, begins_usual, body_at, body_files}
 use Rattle.fv_survey.specs.Words.{body_form, body_inside, body_portion, body_reading, breaks, breaks_names, bytes_in, cells_by, cells_end}
 use Rattle.fv_survey.specs.Words.{cells_from, current_files, cut, damaged_piece, data_reading, file_inside, file_piece, first_start}
-use Rattle.fv_survey.specs.Words.{found_around, found_volume, image_portion, has_finding, has_top_elsewhere, has_twins, headed_piece, inside, inside_as}
+use Rattle.fv_survey.specs.Words.{found_around, found_volume, has_finding, has_top_elsewhere, has_twins, headed_piece, inside, inside_as}
 use Rattle.fv_survey.specs.Words.{is_leaf, is_opened, is_searched, is_stub_state, is_too_deep, kind_at, layout_of, lost_inside, lost_len}
 use Rattle.fv_survey.specs.Words.{may_be_header, may_begin, may_follow, name_findings, named_file, next_at, next_section, none, only}
 use Rattle.fv_survey.specs.Words.{opened, opened_around, parts_by, parts_in, piece_by, piece_inside, piece_said, piece_with}
 use Rattle.fv_survey.specs.Words.{place_findings, plain_opening, plain_piece, read_sizes, row_as, row_of, run_inside, run_row, searched}
 use Rattle.fv_survey.specs.Words.{section_end, section_findings, section_opening, sections_inside, sizes_by, sort_by, sound_piece}
 use Rattle.fv_survey.specs.Words.{space_piece, stream_end, stream_from, strict_kind, united, volume_end, volume_inside, volume_said}
-use Rattle.fv_survey.specs.Words.{whole_image, with_if}
+use Rattle.fv_survey.specs.Words.{whole_image, whole_portion, whole_sections, whole_stream, with_if}
 use Rattle.fv_survey.specs.inner.Bounds.{PartsLie}
 use Rattle.fv_survey.specs.inner.Pieces.{IsPiece}
 use Rattle.fv_tree.specs.Words.{holds_sections}
@@ -975,7 +975,21 @@ all_honest b around before (Tree row below after) (p ∷ ps) (placed, reads, apa
           (after_in b around before p.reading p ps placed here.found here.read more) later),
     )
 
--- the survey of an image is honest
-pub is_honest : (b : List ℕ) → AllByRecursion Fits (whole_image b) → (f : Forest) → Reads f (whole_image b) → IsHonest b [] [] f
-is_honest b fits f r = all_honest b [] [] f (whole_image b) (whole_placed b) fits
-    (put_in b [] (image_portion b) [] (λ _. record { found = refl; read = λ k. never _ k }) (λ _. tt) []) r
+-- the survey of bytes that are read in this way is honest, if the bytes lie in these rows
+whole_honest : (reading : Reading) (b : List ℕ) (around : List Row) → ReadsAs reading (length b)
+    → ((before : List Row) → In b around before (whole_portion reading b)) → AllByRecursion Fits (ahead (whole_portion reading b) [])
+    → (f : Forest) → Reads f (ahead (whole_portion reading b) []) → IsHonest b around [] f
+whole_honest reading b around asks one fits f r =
+    all_honest b around [] f (ahead (whole_portion reading b) []) (whole_placed reading b asks) fits
+    (put_in b around (whole_portion reading b) [] one (λ _. tt) []) r
+
+pub image_honest : (b : List ℕ) → AllByRecursion Fits (whole_image b) → (f : Forest) → Reads f (whole_image b) → IsHonest b [] [] f
+image_honest b = whole_honest (readings.Run kinds.Gap) b [] refl (λ _. record { found = refl; read = λ k. never _ k })
+
+-- a stream of sections lies in a row for all of its bytes
+pub sections_honest : (b : List ℕ) → AllByRecursion Fits (whole_sections b) → (f : Forest) → Reads f (whole_sections b)
+    → IsHonest b (whole_stream b ∷ []) [] f
+sections_honest b = whole_honest (readings.Sections none) b (whole_stream b ∷ []) tt (λ _. record {
+  found = refl;
+  read = record { stream = inl refl; end = refl; levels = refl; each = λ k. no_kind _ k };
+})

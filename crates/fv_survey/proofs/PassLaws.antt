@@ -19,10 +19,10 @@ use Rattle.fv_survey.specs.declared.row.RowKind.TheVariants as kinds
 use Rattle.fv_survey.specs.Words.{Bare, Forest, NoStart, PassesNothing, PortionForm, Reads, Sought, Tree, after_as, begins_section}
 use Rattle.fv_survey.specs.Words.{body_at, body_form, cut, first_start, found_volume, has_finding, in_run, inside_as, is_searched}
 use Rattle.fv_survey.specs.Words.{is_too_deep, kind_at, may_begin, none, only, piece_by, piece_said, plain_opening, row_as, row_of}
-use Rattle.fv_survey.specs.Words.{run_after, run_end, run_row, section_findings, section_opening, volume_end, volume_said, whole_image}
+use Rattle.fv_survey.specs.Words.{run_after, run_end, run_row, section_findings, section_opening, volume_end, volume_said}
 use Rattle.fv_survey.specs.Words.{with_if}
 use Rattle.fv_survey.proofs.FittingLaws.{ahead_by}
-use Rattle.fv_survey.proofs.PlaceLaws.{is_run, ReadsAs, IsPlaced, NoRun, Placed, cut_bytes, begins, inside_placed, after_placed, whole_placed}
+use Rattle.fv_survey.proofs.PlaceLaws.{is_run, ReadsAs, IsPlaced, NoRun, Placed, cut_bytes, begins, inside_placed, after_placed}
 use Rattle.fv_survey.proofs.PortionLaws.{length-cut}
 use Rattle.fv_survey.proofs.RuleLaws.{volume_end_lies}
 use Rattle.fv_survey.proofs.StartLaws.{begins_long, start_within, start_none}
@@ -199,7 +199,8 @@ first_sought b (readings.Run kind) p ps after placed reads apart rest r =
     subst (λ e. Sought b 0 e (run_row kind p)) (sym (begin ∙ end)) (run_sought b kind p placed)
 first_sought b reading p ps after placed reads apart rest r = sought_out b 0 _ (row_as reading p) (first_in_run reading p reads)
 
-all_passed : (b : List ℕ) (f : Forest) (ps : List PortionForm) → Placed b ps → Reads f ps → PassesNothing b 0 f
+-- the reading of placed portions passes no volume in its runs
+pub all_passed : (b : List ℕ) (f : Forest) (ps : List PortionForm) → Placed b ps → Reads f ps → PassesNothing b 0 f
 all_passed b Bare ps all r = tt
 all_passed b (Tree row below after) [] all r = absurd r
 all_passed b (Tree row below after) (p ∷ ps) (placed, reads, apart, rest) (e, inner, more) = (
@@ -208,7 +209,3 @@ all_passed b (Tree row below after) (p ∷ ps) (placed, reads, apart, rest) (e, 
   all_passed b below (inside_as p.reading p []) (inside_placed b p.reading p placed reads) inner,
   all_passed b after (after_as p.reading p ps) (after_placed b p.reading p ps placed reads apart rest) more,
 )
-
--- the survey of an image passes no volume in its runs
-pub passes : (b : List ℕ) (f : Forest) → Reads f (whole_image b) → PassesNothing b 0 f
-passes b f r = all_passed b f (whole_image b) (whole_placed b) r

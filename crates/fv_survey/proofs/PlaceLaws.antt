@@ -28,7 +28,7 @@ use Rattle.fv_survey.specs.Words.{PortionForm, after_as, ahead, begins_section, 
 use Rattle.fv_survey.specs.Words.{body_reading, cells_end, cut, data_reading, file_inside, first_start, found_volume, inside, inside_as}
 use Rattle.fv_survey.specs.Words.{is_opened, is_searched, is_too_deep, kind_at, layout_of, lost_inside, may_begin, next_at, none, only}
 use Rattle.fv_survey.specs.Words.{opened, parts_by, parts_inside, piece_by, piece_inside, place_findings, run_inside, run_row, searched}
-use Rattle.fv_survey.specs.Words.{image_portion, sections_inside, volume_end, volume_inside, whole_image}
+use Rattle.fv_survey.specs.Words.{sections_inside, volume_end, volume_inside, whole_portion}
 use Rattle.fv_survey.specs.inner.Bounds.{PartsLie}
 use Rattle.fv_survey.proofs.FittingLaws.{ahead_by}
 use Rattle.fv_survey.proofs.PortionLaws.{length-cut}
@@ -313,8 +313,8 @@ after_placed b (readings.Sections odd) p ps placed reads apart rest = go (begins
       (put_other b next p.nest (next_at p.bytes) (length p.bytes) p ps placed refl tt rest)
   go false = rest
 
--- an image is placed
-pub whole_placed : (b : List ℕ) → Placed b (whole_image b)
-whole_placed b = ahead_by (Placed b) (image_portion b) [] placed (λ _. tt) where
-  placed : 0 < length b → Placed b (image_portion b ∷ [])
-  placed s = (record { some = s; bytes = sym (take_all (length b) b (omega arith)) }, refl, λ _. tt, tt)
+-- all bytes are placed, if they are as their reading asks
+pub whole_placed : (reading : Reading) (b : List ℕ) → ReadsAs reading (length b) → Placed b (ahead (whole_portion reading b) [])
+whole_placed reading b reads = ahead_by (Placed b) (whole_portion reading b) [] placed (λ _. tt) where
+  placed : 0 < length b → Placed b (whole_portion reading b ∷ [])
+  placed s = (record { some = s; bytes = sym (take_all (length b) b (omega arith)) }, reads, λ _. tt, tt)

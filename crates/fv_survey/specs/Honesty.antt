@@ -14,11 +14,12 @@ use Rattle.fv_survey.specs.declared.row.RowKind.{RowKind}
 use Rattle.fv_survey.specs.declared.row.RowKind.TheVariants as kinds
 use Rattle.fv_survey.specs.declared.systems.Files.TheVariants as files
 use Rattle.fv_survey.specs.Bodies.{cells_by, cells_end, layout_of}
-use Rattle.fv_survey.specs.FindingSets.{has_finding}
+use Rattle.fv_survey.specs.FindingSets.{has_finding, none}
 use Rattle.fv_survey.specs.Forests.{Forest, Bare, Tree}
 use Rattle.fv_survey.specs.NameRules.{body_files, current_files, has_top_elsewhere, has_twins, named_file}
 use Rattle.fv_survey.specs.PieceRules.{IsBroken, piece_by}
-use Rattle.fv_survey.specs.Reading.{body_at, kind_at}
+use Rattle.fv_survey.specs.Portions.{row_of}
+use Rattle.fv_survey.specs.Reading.{body_at, kind_at, plain_opening, sections_portion}
 use Rattle.fv_survey.specs.SectionRules.{body_form, is_opened}
 use Rattle.fv_survey.specs.Starts.{may_begin}
 use Rattle.fv_survey.specs.VolumeRules.{breaks, parts_by}
@@ -189,3 +190,8 @@ IsHonest b around before Bare = Unit {0}
 IsHonest b around before (Tree row below after) =
     IsFounded b around before row × ReasonAs row.kind around row
     × IsHonest b (row ∷ around) [] below × IsHonest b around (row ∷ before) after
+
+-- a row for all bytes of a stream of sections: the rows of the stream lie in it, as in the row of a file whose data are
+-- the stream
+abbrev pub whole_stream : List ℕ → Row
+whole_stream b = row_of (plain_opening kinds.File none) (length b) (sections_portion b)

@@ -263,11 +263,15 @@ rows_up_to (suc n) (p ∷ ps) = first_row p ∷ rows_up_to n (inside_first p (af
 abbrev pub rows_left : List PortionForm → List Row
 rows_left ps = rows_up_to (most_rows ps) ps
 
+-- bytes that lie in no row, as a portion that is read in this way
+abbrev pub whole_portion : Reading → List ℕ → PortionForm
+whole_portion reading b =
+    record { reading = reading; nest = record { depth = 0; levels = 8; found = 8 }; at = 0; bytes = b }
+
 -- an image as a portion: bytes without a structure, in which volumes are looked for; and as a list of portions, which is
 -- empty if the image has no bytes
 abbrev pub image_portion : List ℕ → PortionForm
-image_portion b =
-    record { reading = readings.Run kinds.Gap; nest = record { depth = 0; levels = 8; found = 8 }; at = 0; bytes = b }
+image_portion b = whole_portion (readings.Run kinds.Gap) b
 
 abbrev pub whole_image : List ℕ → List PortionForm
 whole_image b = ahead (image_portion b) []
@@ -275,3 +279,14 @@ whole_image b = ahead (image_portion b) []
 -- the rows of the survey of an image, in preorder
 unfoldable pub survey_of : List ℕ → List Row
 survey_of b = rows_left (whole_image b)
+
+-- a stream of sections as a portion, and as a list of portions. It is read like the data of a file that holds sections
+abbrev pub sections_portion : List ℕ → PortionForm
+sections_portion b = whole_portion (readings.Sections none) b
+
+abbrev pub whole_sections : List ℕ → List PortionForm
+whole_sections b = ahead (sections_portion b) []
+
+-- the rows of the survey of a stream of sections, in preorder
+unfoldable pub survey_of_sections : List ℕ → List Row
+survey_of_sections b = rows_left (whole_sections b)

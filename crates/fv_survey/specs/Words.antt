@@ -32,8 +32,8 @@ pub use Rattle.fv_survey.specs.Reading.{data_reading, piece_said, file_inside, p
 pub use Rattle.fv_survey.specs.Reading.{cells_after, kind_at, body_at, next_at, is_too_deep, body_reading}
 pub use Rattle.fv_survey.specs.Reading.{body_portion, sections_inside, sections_after, row_as, first_row, inside_as}
 pub use Rattle.fv_survey.specs.Reading.{inside_first, after_as, after_first, most_as, most_rows, rows_up_to}
-pub use Rattle.fv_survey.specs.Reading.{rows_left, image_portion, whole_image}
-unfoldable pub use Rattle.fv_survey.specs.Reading.{survey_of}
+pub use Rattle.fv_survey.specs.Reading.{rows_left, whole_portion, image_portion, whole_image, sections_portion, whole_sections}
+unfoldable pub use Rattle.fv_survey.specs.Reading.{survey_of, survey_of_sections}
 pub use Rattle.fv_survey.specs.Reads.{Reads}
 pub use Rattle.fv_survey.specs.Agreement.{files_for, SameExtent, HasData, ReadAs, SameSection, SectionsAs}
 pub use Rattle.fv_survey.specs.CleanReading.{Clean, CleanBody, CleanStream, named_piece, is_file, is_opened_file}
@@ -45,4 +45,4 @@ pub use Rattle.fv_survey.specs.Fitting.{IsShallow, IsShallowRun, FitsAs, Fits}
 pub use Rattle.fv_survey.specs.Honesty.{bytes_in, parts_in, cells_from, stream_end, stream_from, found_around}
 pub use Rattle.fv_survey.specs.Honesty.{opened_around, breaks_names, VolumeBreaks, CellBreaks, EndsOdd, IsTooDeep}
 pub use Rattle.fv_survey.specs.Honesty.{SectionBreaks, LostSections, LostInSection, LostInVolume, LostIn, Loses}
-pub use Rattle.fv_survey.specs.Honesty.{UnreadBreaks, StandsAs, IsFounded, IsInLost, ReasonAs, IsHonest}
+pub use Rattle.fv_survey.specs.Honesty.{UnreadBreaks, StandsAs, IsFounded, IsInLost, ReasonAs, IsHonest, whole_stream}

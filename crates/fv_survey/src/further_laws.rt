@@ -1,7 +1,7 @@
 //! Laws over the definitions of this crate. None of these functions does anything: their contracts
 //! are the laws.
 
-ghost use Rattle.std.specs.Prelude.{◌≡◌, ◌%◌, ℕ, List, [], ◌∷◌, length};
+ghost use Rattle.std.specs.Prelude.{◌≡◌, ◌≤◌, ◌<◌, ◌*◌, ◌%◌, ◌^◌, ℕ, List, [], ◌∷◌, length};
 ghost use Rattle.fv_base.specs.Words.{IsBytes};
 ghost use Rattle.fv_base.specs.declared.fault.FaultKind.{FaultKind};
 ghost use Rattle.fv_file.specs.Words.{CellForm, Tiles};
@@ -13,11 +13,14 @@ ghost use Rattle.fv_survey.specs.declared.systems.Files.TheVariants as files;
 ghost use Rattle.fv_survey.specs.Agreement.{ReadAs, SameExtent, SectionsAs};
 ghost use Rattle.fv_survey.specs.CleanReading.{Agree, IsCleanImage, IsCleanVolume, IsVolumePortion};
 ghost use Rattle.fv_survey.specs.FindingSets.{has_finding};
-ghost use Rattle.fv_survey.specs.Forests.{Forest};
+ghost use Rattle.fv_survey.specs.Forests.{Forest, IsForest};
+ghost use Rattle.fv_survey.specs.Honesty.{IsHonest, whole_stream};
 ghost use Rattle.fv_survey.specs.PieceRules.{system_by};
 ghost use Rattle.fv_survey.specs.Portions.{PortionForm};
-ghost use Rattle.fv_survey.specs.Reading.{whole_image};
+ghost use Rattle.fv_survey.specs.Reading.{survey_of_sections, whole_image};
 ghost use Rattle.fv_survey.specs.Reads.{Reads};
+ghost use Rattle.fv_survey.specs.Runs.{PassesNothing};
+ghost use Rattle.fv_survey.specs.Tiling.{Tile, TileEach};
 ghost use Rattle.fv_survey.specs.VolumeRules.{breaks, header_findings, parts_by};
 ghost use Rattle.fv_tree.specs.Words.{Accepted, Denotes, Meaning};
 
@@ -67,4 +70,28 @@ pub fn images_agree()
 /// kind. (PI specification, volume 3, section 3.2.1.1.)
 pub fn headers_have_all_findings()
     ensures { (kind : FaultKind) (b : List ℕ) → has_finding kind (header_findings b) ≡ breaks kind b }
+{}
+
+/// The survey of a stream of sections, such as the contents of a packed section, keeps the laws of
+/// the survey of an image. (PI specification, volume 3, section 3.2.4.)
+pub fn sections_keep_the_laws()
+    // Every byte is in exactly one leaf row.
+    ensures tiling { (b : List ℕ) → length b < 2 ^ 63 → Tile (length b) (survey_of_sections b) }
+
+    // The leaf rows in each row tile it.
+    ensures inside { (b : List ℕ) → length b < 2 ^ 63 → TileEach (survey_of_sections b) }
+
+    // The rows in a row lie one after another from its first byte to its end, and are one deeper than it.
+    ensures nesting { (b : List ℕ) → length b < 2 ^ 63 → (f : Forest) × IsForest (length b) (survey_of_sections b) f }
+
+    // No place where a volume may begin is passed over in bytes that no structure explains further.
+    ensures passes { (b : List ℕ) → length b < 2 ^ 63
+        → (f : Forest) × IsForest (length b) (survey_of_sections b) f × PassesNothing b 0 f }
+
+    // Each finding of a row says what is so, and bytes are lost or unread only for a reason that a finding gives.
+    ensures honest { (b : List ℕ) → length b < 2 ^ 63
+        → (f : Forest) × IsForest (length b) (survey_of_sections b) f × IsHonest b (whole_stream b ∷ []) [] f }
+
+    // There are at most two rows for each byte.
+    ensures few { (b : List ℕ) → length (survey_of_sections b) ≤ 2 * length b }
 {}

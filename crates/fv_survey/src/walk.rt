@@ -5,8 +5,8 @@ ghost use Rattle.fv_base.specs.Words.{out_of_memory};
 ghost use Rattle.fv_survey.specs.Forests.{Forest, IsForest};
 ghost use Rattle.fv_survey.specs.Fitting.{Fits};
 ghost use Rattle.fv_survey.specs.Honesty.{IsHonest};
-ghost use Rattle.fv_survey.specs.Portions.{portion_form, stack};
-ghost use Rattle.fv_survey.specs.Reading.{after_first, first_row, inside_first, survey_of};
+ghost use Rattle.fv_survey.specs.Portions.{ahead, portion_form, stack};
+ghost use Rattle.fv_survey.specs.Reading.{after_first, first_row, inside_first, rows_left, survey_of, survey_of_sections, whole_portion};
 ghost use Rattle.fv_survey.specs.Runs.{PassesNothing};
 ghost use Rattle.fv_survey.specs.Tiling.{Tile, TileEach};
 
@@ -74,6 +74,34 @@ impl<'a> Model for SurveyWalk<'a> {
     ghost invariant = { λ w. AllByRecursion Fits (stack w.portions.items) };
 }
 
+// Returns the portion of bytes that lie in no row, and are read in this way.
+fn whole<'a>(reading: Reading, bytes: &'a [u8]) -> Portion<'a>
+    ensures { portion_form result ≡ whole_portion reading bytes.now }
+{
+    let nest = Nesting {
+        depth: 0,
+        levels: DEPTH_LIMIT,
+        found: FOUND_LIMIT,
+    };
+    Portion {
+        reading,
+        nest,
+        at: 0,
+        bytes,
+    }
+}
+
+// Starts a walk over the rows of a portion.
+fn start<'a>(alloc: Global, portion: Portion<'a>) -> Result<SurveyWalk<'a>, Fault>
+    requires fits { 0 < length portion.bytes.now → Fits (portion_form portion) }
+    ensures rows { IfOk result (λ w. w ≡ rows_left (ahead (portion_form portion.entry) [])) }
+    ensures err { IfErr result (λ f. f ≡ out_of_memory) }
+{
+    let mut portions = Vec::new(alloc);
+    put(&mut portions, portion)?;
+    Ok(SurveyWalk { portions })
+}
+
 impl<'a> SurveyWalk<'a> {
     /// Starts a walk over the rows of the survey of an image.
     ///
@@ -84,20 +112,22 @@ impl<'a> SurveyWalk<'a> {
         ensures rows { IfOk result (λ w. w ≡ survey_of image.now) }
         ensures err { IfErr result (λ f. f ≡ out_of_memory) }
     {
-        let mut portions = Vec::new(alloc);
-        let nest = Nesting {
-            depth: 0,
-            levels: DEPTH_LIMIT,
-            found: FOUND_LIMIT,
-        };
-        let whole = Portion {
-            reading: Reading::Run(RowKind::Gap),
-            nest,
-            at: 0,
-            bytes: image,
-        };
-        put(&mut portions, whole)?;
-        Ok(SurveyWalk { portions })
+        start(alloc, whole(Reading::Run(RowKind::Gap), image))
+    }
+
+    /// Starts a walk over the rows of the survey of a stream of sections, such as the contents of a
+    /// packed section. It is read like the data of a file that holds sections: the rows that lie in
+    /// no other row are sections, fillers between them, and lost bytes. (PI specification, volume 3,
+    /// section 3.2.4.)
+    ///
+    /// # Errors
+    ///
+    /// OutOfMemory at offset 0.
+    pub fn of_sections(alloc: Global, sections: &'a [u8]) -> Result<SurveyWalk<'a>, Fault>
+        ensures rows { IfOk result (λ w. w ≡ survey_of_sections sections.now) }
+        ensures err { IfErr result (λ f. f ≡ out_of_memory) }
+    {
+        start(alloc, whole(Reading::Sections(Findings::NONE), sections))
     }
 
     /// Returns the next row, or None after the last one.

@@ -1,5 +1,5 @@
 -- The totals of rows: one more row (`totals_next`), no number overflows (`has_room`), and the numbers of bytes of all
--- kinds add up to the number of bytes of the image (`add_up`).
+-- kinds add up to the number of bytes that the rows account for (`add_up`).
 use Rattle.std.proofs.Common.{◌≡◌, ◌≤◌, ◌<◌, ◌+◌, ◌^◌, ◌==◌, ◌&&◌, ℕ, List, [], ◌∷◌, ◌++◌, Bool, true, false, length, map, refl, sym, ap, ◌∙◌}
 use Rattle.std.proofs.Common.{arith, if◌then◌else◌, length-append, get_or, suc}
 use Rattle.fv_base.proofs.Laws.{nat_tests}
@@ -9,11 +9,11 @@ use Rattle.std.proofs.lemmas.List.Sums.{count_by-le-length, get_or-le-sum_by, su
 use Rattle.std.proofs.lemmas.List.{get_or-map}
 use Rattle.std.proofs.lemmas.List.Folds.{list_all-append}
 use Rattle.fv_survey.proofs.Laws.{few, tiling}
-use Rattle.fv_survey.specs.Words.{Follow, is_leaf, leaves_of, survey_of}
+use Rattle.fv_survey.specs.Words.{Follow, Tile, is_leaf, leaves_of, survey_of}
 use Rattle.fv_survey.specs.declared.row.Row.{Row}
 use Rattle.fv_survey.specs.declared.row.RowKind.{RowKind}
 use Rattle.fv_survey.specs.declared.row.RowKind.TheVariants as kinds
-use Rattle.fv_survey_lines.specs.Words.{bytes_of_kind, has_other_findings, is_clean, is_marked_only, is_sound, leaf_kinds, leaf_number}
+use Rattle.fv_survey_lines.specs.Words.{AccountFor, bytes_of_kind, has_other_findings, is_clean, is_marked_only, is_sound, leaf_kinds, leaf_number}
 use Rattle.fv_survey_lines.specs.inner.Totalled.{HasRoom, sum_in, sums_of, sums_with, totals_of, totals_with}
 
 -- ---- one more row
@@ -75,8 +75,8 @@ follow_sum [] at to ends = rw (add-zero at) ends
 follow_sum (row ∷ rows) at to (_, rest) =
     omega (arith, sum_by-cons (λ (row : Row). row.length) row rows, follow_sum rows (at + row.length) to rest)
 
-leaf_bytes_of : (image : List ℕ) → length image < 2 ^ 63 → leaf_bytes (survey_of image) ≡ length image
-leaf_bytes_of image room = omega (arith, follow_sum (leaves_of (survey_of image)) 0 (length image) (tiling image room))
+leaf_bytes_of : (n : ℕ) (rows : List Row) → Tile n rows → leaf_bytes rows ≡ n
+leaf_bytes_of n rows tile = omega (arith, follow_sum (leaves_of rows) 0 n tile)
 
 -- n bytes of a kind are counted once if this is a kind of leaf rows
 counted : (has : RowKind) (n : ℕ) → sum_by (bytes_in has n) leaf_kinds ≡ (if is_leaf has then n else 0)
@@ -123,8 +123,12 @@ all_counted (row ∷ rows) =
     split ∙ (sum_both (bytes_in row.kind row.length) (λ kind. bytes_of_kind kind rows) leaf_kinds
     ∙ (rw (counted row.kind row.length, all_counted rows) (sym (leaf_cons row rows))))
 
-pub add_up : (image : List ℕ) → length image < 2 ^ 63 → sum_by (λ kind. bytes_of_kind kind (survey_of image)) leaf_kinds ≡ length image
-add_up image room = all_counted (survey_of image) ∙ leaf_bytes_of image room
+pub add_up : (n : ℕ) (rows : List Row) → AccountFor n rows → sum_by (λ kind. bytes_of_kind kind rows) leaf_kinds ≡ n
+add_up n rows account = all_counted rows ∙ leaf_bytes_of n rows account.tile
+
+-- the rows of the survey of an image account for its bytes
+pub image_account : (image : List ℕ) → length image < 2 ^ 63 → AccountFor (length image) (survey_of image)
+image_account image room = record { room = room; tile = tiling image room; few = few image }
 
 -- ---- no number overflows
 
@@ -172,15 +176,15 @@ kind_grows kind rows left row =
       sum_by-cons (λ (r : Row). bytes_in r.kind r.length kind) row left,
     )
 
-pub has_room : (image : List ℕ) (rows left : List Row) (row : Row) → length image < 2 ^ 63 → rows ++ row ∷ left ≡ survey_of image
+pub has_room : (n : ℕ) (whole rows left : List Row) (row : Row) → AccountFor n whole → rows ++ row ∷ left ≡ whole
     → HasRoom (totals_of rows) row
-has_room image rows left row room all =
-    let long : length rows + suc (length left) ≡ length (survey_of image) = sym (length-append rows (row ∷ left)) ∙ ap length all in
+has_room n whole rows left row account all =
+    let long : length rows + suc (length left) ≡ length whole = sym (length-append rows (row ∷ left)) ∙ ap length all in
     record {
       sum = λ leaf.
           let grows = rw (own_bytes row.kind row.length, all) at (kind_grows row.kind rows left row) in
-          let most = at_most_all row.kind (λ kind. bytes_of_kind kind (survey_of image)) leaf in
-          rw (sum_at row.kind (λ kind. bytes_of_kind kind rows) leaf) (omega (arith, grows, most, add_up image room, room));
-      findings = omega (arith, count_by-le-length (λ r. has_other_findings r.findings) rows, long, few image, room);
-      fixed = omega (arith, count_by-le-length (λ r. is_marked_only r.findings) rows, long, few image, room);
+          let most = at_most_all row.kind (λ kind. bytes_of_kind kind whole) leaf in
+          rw (sum_at row.kind (λ kind. bytes_of_kind kind rows) leaf) (omega (arith, grows, most, add_up n whole account, account.room));
+      findings = omega (arith, count_by-le-length (λ r. has_other_findings r.findings) rows, long, account.few, account.room);
+      fixed = omega (arith, count_by-le-length (λ r. is_marked_only r.findings) rows, long, account.few, account.room);
     }

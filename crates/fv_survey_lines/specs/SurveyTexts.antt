@@ -1,10 +1,10 @@
 -- The text of `survey`: a line for each row, and a last line that accounts for all bytes by kind; and which images are
 -- clean.
-use Rattle.std.specs.Prelude.{ℕ, ◌==◌, ◌&&◌, not, if◌then◌else◌, Bool, List, [], ◌∷◌, ◌++◌, length, codes, decimal}
+use Rattle.std.specs.Prelude.{ℕ, ◌*◌, ◌≤◌, ◌<◌, ◌^◌, ◌==◌, ◌&&◌, not, if◌then◌else◌, Bool, List, [], ◌∷◌, ◌++◌, length, codes, decimal}
 use Rattle.std.specs.List.{count_by, flat_map, list_all, sum_by}
 use Rattle.fv_base.specs.declared.fault.FaultKind.TheVariants as faults
 use Rattle.fv_text.specs.Words.{line_feed}
-use Rattle.fv_survey.specs.Words.{bits_of, bit_of_kind, survey_of}
+use Rattle.fv_survey.specs.Words.{Tile, bits_of, bit_of_kind, survey_of}
 use Rattle.fv_survey.specs.declared.findings.Findings.{Findings}
 use Rattle.fv_survey.specs.declared.row.Row.{Row}
 use Rattle.fv_survey.specs.declared.row.RowKind.{RowKind}
@@ -70,8 +70,15 @@ count_text kind n = codes " " ++ (kind_word kind ++ (codes " " ++ decimal n))
 abbrev pub sum_text : RowKind → ℕ → List ℕ
 sum_text kind n = if n == 0 then [] else count_text kind n
 
--- the last line of an image of n bytes: the number of bytes of each kind that occurs, and of all bytes; the number of
--- rows with findings other than the mark of a fixed file; and the number of rows with only this mark
+-- the rows account for n bytes: each of these bytes is in exactly one leaf row, and there are at most two rows for each
+-- byte
+pub record AccountFor (n : ℕ) (rows : List Row) : Type 0 where
+  pub room : n < 2 ^ 63
+  pub tile : Tile n rows
+  pub few : length rows ≤ 2 * n
+
+-- the last line for n bytes with these rows: the number of bytes of each kind that occurs, and of all; and the number of
+-- rows with findings other than the mark of a fixed file, and with only this mark
 abbrev pub totals_line : ℕ → List Row → List ℕ
 totals_line n rows =
     codes "sums" ++ (flat_map (λ kind. sum_text kind (bytes_of_kind kind rows)) leaf_kinds
@@ -85,6 +92,10 @@ totals_line n rows =
 abbrev pub rows_text : List Row → List ℕ
 rows_text rows = flat_map row_line rows
 
+-- the text for n bytes with these rows: a line for each row, and the last line
+abbrev pub account_text : ℕ → List Row → List ℕ
+account_text n rows = rows_text rows ++ totals_line n rows
+
 -- the text of `survey` for an image: a line for each row of its survey, and the last line
 abbrev pub survey_text : List ℕ → List ℕ
-survey_text image = rows_text (survey_of image) ++ totals_line (length image) (survey_of image)
+survey_text image = account_text (length image) (survey_of image)

@@ -7,4 +7,4 @@ mod row_text;
 mod survey_text;
 mod totals;
 
-pub use survey_text::put_survey;
+pub use survey_text::{put_rows, put_survey};

@@ -14,9 +14,9 @@ use Rattle.fv_extract.specs.declared.outcome.Outcome.TheVariants.{Put, NotFound,
 use Rattle.fv_plan.specs.declared.plan.Command.{Command}
 use Rattle.fv_plan.specs.declared.plan.Plan.{Plan}
 use Rattle.fv_plan.specs.declared.plan.Task.{Task}
-use Rattle.fv_plan.specs.declared.plan.Command.TheVariants.{Single, Hobs, Open, Compare}
+use Rattle.fv_plan.specs.declared.plan.Command.TheVariants.{Single, Hobs, Open, Compare, Same}
 use Rattle.fv_plan.specs.declared.plan.Task.TheVariants.{Normalise, NormaliseAll, List as Listing, ListSums, ListOpened}
-use Rattle.fv_plan.specs.declared.plan.Task.TheVariants.{Extract, ExtractOpened, Check, CheckAll, Cells, Unfix, Scan, Survey}
+use Rattle.fv_plan.specs.declared.plan.Task.TheVariants.{Extract, ExtractOpened, Check, CheckAll, Cells, Unfix, Scan, Survey, SurveyOpened}
 
 part_not_wrong : (outcome : Outcome) → WrongArguments ≡ part_status outcome → ⊥
 part_not_wrong Put is = cc
@@ -57,6 +57,8 @@ says_not_wrong Unfix hex input text said = said
 says_not_wrong Scan hex input text said = said
 says_not_wrong Survey hex input text (inl (is, all)) = survey_not_wrong _ is
 says_not_wrong Survey hex input text (inr (is, front)) = let bad : WrongArguments ≡ Incomplete = is in cc
+says_not_wrong SurveyOpened hex input text (inl (is, all)) = survey_not_wrong _ is
+says_not_wrong SurveyOpened hex input text (inr (is, front)) = let bad : WrongArguments ≡ Incomplete = is in cc
 
 packed_not_wrong : (hex : Bool) (p : Packed) (text : List ℕ) → PackedText hex p WrongArguments text → ⊥
 packed_not_wrong hex (packed.Section frame) text said = said
@@ -75,6 +77,8 @@ command_not_wrong (Hobs file image) hex first second text (is, lists) = let bad 
 command_not_wrong (Open path at file) hex first second text (same, said) = opens_not_wrong path hex at first text said
 command_not_wrong (Compare a b) hex first second text (m, k, gives, also, inl (is, same), line) = let bad : WrongArguments ≡ Done = is in cc
 command_not_wrong (Compare a b) hex first second text (m, k, gives, also, inr (is, differ), line) = let bad : WrongArguments ≡ Different = is in cc
+command_not_wrong (Same a b) hex first second text (one, other, None, gives, also, (is, same), line) = let bad : WrongArguments ≡ Done = is in cc
+command_not_wrong (Same a b) hex first second text (one, other, Some d, gives, also, (is, differ, places), line) = let bad : WrongArguments ≡ Different = is in cc
 
 text_not_wrong : (c : Command) (hex : Bool) (first second : Change) (refusal : Option Refusal) (text : List ℕ)
     → HasText c hex first second refusal WrongArguments text → ⊥

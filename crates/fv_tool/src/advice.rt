@@ -19,8 +19,9 @@ pub const SYNOPSIS: &str = "\
     fvtool open [--section PATH] [--at N] [--hex] [FILE]\n\
     fvtool check [--at N | --all] [--hex] [FILE]\n\
     fvtool scan [--hex] [FILE]\n\
-    fvtool survey [--hex] [FILE]\n\
+    fvtool survey [--open] [--hex] [FILE]\n\
     fvtool compare [--at N] [--other-at N] [--hex] A B\n\
+    fvtool same [--hex] A B\n\
     fvtool hobs [--image IMG --base N] [--hex] [FILE]";
 
 /// What each command does, as in `docs/PROGRAM.md`.
@@ -35,8 +36,9 @@ pub const COMMANDS: &str = "\
     scan       finds the volumes in an image\n\
     survey     lists what each byte of an image is, also where a volume is rejected\n\
     compare    reports whether two volumes mean the same, or where they first differ\n\
+    same       reports the same of two images of any bytes, and looks into packed sections\n\
     hobs       lists the blocks of a hand-off list\n\
-    --open     goes through compressed and GUID-defined sections: for list and extract\n\
+    --open     goes through compressed and GUID-defined sections: for list, extract and survey\n\
     --at N     is for the volume that begins at byte N of the input: scan shows these numbers\n\
     --hex      is for inputs and outputs that are hexadecimal text\n\
     FILE       is the input; without FILE, standard input is read";

@@ -97,7 +97,7 @@ fn explain_rejected_volume<P: Process>(alloc: Global, process: &P) {
 // Returns whether the command is a survey.
 fn is_survey(command: &Command) -> bool {
     match command {
-        Command::Single { task, .. } => matches!(task, Task::Survey),
+        Command::Single { task, .. } => matches!(task, Task::Survey | Task::SurveyOpened),
         _ => false,
     }
 }

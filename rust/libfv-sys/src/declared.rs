@@ -7,6 +7,7 @@ constants! {
     u32: FV_VERSION_PATCH = 0;
     u32: FV_VERSION_NUMBER = 0x020100;
     u32: FV_LENGTH_MAX = 268435456;
+    u32: FV_CONTENTS_MAX = 1073741824;
     u32: FV_DIFFERENCE_SIZE = 553;
     u32: FV_GUID_TEXT_SIZE = 37;
     u64: FV_NO_PARENT = u64::MAX;
@@ -40,11 +41,19 @@ constants! {
         FV_SECTION_VERSION = 0x14, FV_SECTION_USER_INTERFACE = 0x15, FV_SECTION_COMPATIBILITY16 = 0x16,
         FV_SECTION_FIRMWARE_VOLUME_IMAGE = 0x17, FV_SECTION_FREEFORM_SUBTYPE_GUID = 0x18, FV_SECTION_RAW = 0x19,
         FV_SECTION_PEI_DEPEX = 0x1B, FV_SECTION_MM_DEPEX = 0x1C;
+    u32: FV_PART_STORE_HEADER = 1, FV_PART_VARIABLE = 2, FV_PART_UNFINISHED = 3, FV_PART_FILLER = 4, FV_PART_FREE = 5,
+        FV_PART_WORKING_BLOCK = 6, FV_PART_LIST_HEADER = 7, FV_PART_SIGNATURE = 8, FV_PART_UNREAD = 9;
+    u32: FV_FINDING_STORE_SIZE = 1, FV_FINDING_STORE_STATE = 2, FV_FINDING_START_ID = 3, FV_FINDING_VARIABLE_SIZE = 4,
+        FV_FINDING_QUEUE_SIZE = 5, FV_FINDING_NO_STORE = 6, FV_FINDING_LIST_SIZE = 7, FV_FINDING_SIGNATURE_SIZE = 8;
+    u32: FV_STORE_PLAIN = 1, FV_STORE_AUTHENTICATED = 2;
+    u32: FV_VARIABLE_ADDED = 1, FV_VARIABLE_REPLACED = 2, FV_VARIABLE_DELETED = 3, FV_VARIABLE_HEADER_ONLY = 4,
+        FV_VARIABLE_OTHER = 5;
     u32: FV_PHASE_PEI = 0, FV_PHASE_DXE = 1;
     u32: FV_WITHOUT_MARKS = 1;
     u32: FV_DEPEX_FALSE = 0, FV_DEPEX_TRUE = 1, FV_DEPEX_ORDER = 2;
     u32: FV_WAY_STORED = 1, FV_WAY_STANDARD = 2, FV_WAY_UEFI = 3, FV_WAY_TIANO = 4, FV_WAY_CUSTOMIZED = 5,
         FV_WAY_LZMA = 6, FV_WAY_LZMA_X86 = 7, FV_WAY_CRC32 = 8, FV_WAY_SIGNED = 9, FV_WAY_PLAIN = 10;
+    u32: FV_REASON_FAULT = 1, FV_REASON_DEPTH = 2, FV_REASON_LIMIT = 3;
 }
 
 structures! {
@@ -57,6 +66,10 @@ structures! {
         reserved: u32 = 44;
     fv_survey_row, 56, 8: offset: u64 = 0, length: u64 = 8, kind: u32 = 16, depth: u32 = 20, efi_type: u32 = 24,
         found: u32 = 28, findings: u32 = 32, name: fv_guid = 36, reserved: u32 = 52;
+    fv_variable_row, 104, 8: offset: u64 = 0, length: u64 = 8, monotonic_count: u64 = 16, part: u32 = 24,
+        finding: u32 = 28, format: u32 = 32, size: u32 = 36, state: u32 = 40, status: u32 = 44, attributes: u32 = 48,
+        header_length: u32 = 52, name_size: u32 = 56, data_size: u32 = 60, public_key: u32 = 64, formatted: u32 = 68,
+        guid: fv_guid = 72, time_stamp: [u8; 16] = 88;
     fv_comparison, 16, 8: text_length: u64 = 0, same: u32 = 8, reserved: u32 = 12;
     fv_cell, 56, 8: offset: u64 = 0, length: u64 = 8, kind: u32 = 16, header_length: u32 = 20, efi_type: u32 = 24,
         attributes: u32 = 28, name: fv_guid = 32, reserved: u64 = 48;
@@ -67,6 +80,14 @@ structures! {
         reserved: u64 = 24;
     fv_way, 24, 8: promised: u64 = 0, data_offset: u64 = 8, way: u32 = 16, reserved: u32 = 20;
     fv_contents, 16, 8: length: u64 = 0, way: u32 = 8, reserved: u32 = 12;
+    fv_packed, 72, 8: source: u64 = 0, offset: u64 = 8, length: u64 = 16, contents_length: u64 = 24,
+        fault: fv_fault = 32, depth: u32 = 56, way: u32 = 60, reason: u32 = 64, reserved: u32 = 68;
+    fv_part_place, 32, 8: source: u64 = 0, offset: u64 = 8, length: u64 = 16, has_place: u32 = 24, reserved: u32 = 28;
+    fv_sameness, 72, 8: first: fv_part_place = 0, second: fv_part_place = 32, is_same: u32 = 64, reserved: u32 = 68;
+}
+
+handles! {
+    fv_image;
 }
 
 extern "C" {
@@ -82,6 +103,15 @@ extern "C" {
         fault: *mut fv_fault) -> fv_result;
     pub fn fv_image_survey(image: *const c_void, size: usize, rows: *mut fv_survey_row, room: usize, count: *mut usize,
         fault: *mut fv_fault) -> fv_result;
+    pub fn fv_image_open(image: *const c_void, size: usize, limit: u64, opened: *mut *mut fv_image,
+        fault: *mut fv_fault) -> fv_result;
+    pub fn fv_image_close(image: *mut fv_image);
+    pub fn fv_image_source_count(image: *const fv_image) -> usize;
+    pub fn fv_image_source_bytes(image: *const fv_image, source: usize, size: *mut usize) -> *const c_void;
+    pub fn fv_image_source_rows(image: *const fv_image, source: usize, count: *mut usize) -> *const fv_survey_row;
+    pub fn fv_image_packed(image: *const fv_image, count: *mut usize) -> *const fv_packed;
+    pub fn fv_image_same(first: *const c_void, first_size: usize, second: *const c_void, second_size: usize, limit: u64,
+        found: *mut fv_sameness, fault: *mut fv_fault) -> fv_result;
     pub fn fv_volume_is_canonical(volume: *const c_void, size: usize, canonical: *mut u32, fault: *mut fv_fault) ->
         fv_result;
     pub fn fv_volume_normalise(volume: *const c_void, size: usize, buffer: *mut c_void, buffer_size: usize,
@@ -109,12 +139,18 @@ extern "C" {
     pub fn fv_section_way(section: *const c_void, size: usize, way: *mut fv_way, fault: *mut fv_fault) -> fv_result;
     pub fn fv_section_open(section: *const c_void, size: usize, limit: usize, buffer: *mut c_void, buffer_size: usize,
         found: *mut fv_contents, fault: *mut fv_fault) -> fv_result;
+    pub fn fv_sections_survey(sections: *const c_void, size: usize, rows: *mut fv_survey_row, room: usize,
+        count: *mut usize, fault: *mut fv_fault) -> fv_result;
     pub fn fv_sections_tree(sections: *const c_void, size: usize, flags: u32, rows: *mut fv_node, room: usize,
         count: *mut usize, fault: *mut fv_fault) -> fv_result;
     pub fn fv_sections_tree_digests(sections: *const c_void, size: usize, flags: u32, rows: *mut fv_sha256, room: usize,
         count: *mut usize, fault: *mut fv_fault) -> fv_result;
     pub fn fv_sections_extract(sections: *const c_void, size: usize, flags: u32, row: usize, buffer: *mut c_void,
         buffer_size: usize, length: *mut usize, fault: *mut fv_fault) -> fv_result;
+    pub fn fv_variables_read(bytes: *const c_void, size: usize, rows: *mut fv_variable_row, room: usize,
+        count: *mut usize, fault: *mut fv_fault) -> fv_result;
+    pub fn fv_signatures_read(bytes: *const c_void, size: usize, rows: *mut fv_variable_row, room: usize,
+        count: *mut usize, fault: *mut fv_fault) -> fv_result;
     pub fn fv_depex_evaluate(expression: *const c_void, size: usize, phase: u32, installed: *const fv_guid,
         installed_count: usize, value: *mut u32, fault: *mut fv_fault) -> fv_result;
     pub fn fv_hobs_read(list: *const c_void, size: usize, rows: *mut fv_hob, room: usize, count: *mut usize,

@@ -49,6 +49,16 @@ macro_rules! structures {
     )*};
 }
 
+// Declares handles: structures whose fields are hidden.
+macro_rules! handles {
+    ($($name:ident;)*) => {$(
+        #[repr(C)]
+        pub struct $name {
+            hidden: [u8; 0],
+        }
+    )*};
+}
+
 const _: () = assert!(size_of::<usize>() == 8);
 
 include!("declared.rs");

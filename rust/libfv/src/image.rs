@@ -8,6 +8,9 @@ use crate::{Error, Fault, FaultKind, Guid};
 use libfv_sys as sys;
 use std::ops::Range;
 
+pub use crate::levels::{open, Image, PackedSection, Reason, Source};
+pub use crate::same::{same, PartPlace, Sameness};
+
 row! {
     /// A volume of an image, and the result of its check. [`check`] returns these rows.
     VolumeCheck(fv_volume_check), it {

@@ -14,6 +14,8 @@
 //! | Which volumes of an image are canonical? | [`image::check`] |
 //! | What is an image with each volume canonical? | [`image::normalise`] |
 //! | What is each byte of an image, and what is wrong? | [`image::survey`] |
+//! | The same, also in packed sections, at every level? | [`image::open`] |
+//! | Do two images mean the same, at every level? | [`image::same`] |
 //! | Is a volume its own canonical image? | [`volume::is_canonical`] |
 //! | What is the canonical image of a volume? | [`volume::normalise`] |
 //! | What is a volume without the marks of fixed files? | [`volume::unfix`] |
@@ -25,9 +27,12 @@
 //! | What are the bytes of one of these parts? | [`volume::extract`] |
 //! | How is a packed section opened? How long is it then? | [`section::way`] |
 //! | What are the contents of a packed section? | [`section::open`] |
+//! | What is each byte of a stream, and what is wrong? | [`sections::survey`] |
 //! | What is in a stream of sections, at every level? | [`sections::tree`] |
 //! | Which digest does each of these parts have? | [`sections::tree_digests`] |
 //! | What are the bytes of one of these parts? | [`sections::extract`] |
+//! | What is in a variable store of EDK II? | [`variables::read`] |
+//! | Which signatures do signature lists have? | [`variables::signatures`] |
 //! | Is a dependency expression true? | [`depex::evaluate`] |
 //! | Which blocks does a hand-off list have? | [`hobs::read`] |
 //!
@@ -58,8 +63,10 @@ compile_error!("libfv is a library for 64-bit systems");
 mod call;
 mod error;
 mod guid;
+mod levels;
 mod reading;
 mod row;
+mod same;
 mod types;
 
 pub mod depex;
@@ -68,6 +75,7 @@ pub mod hobs;
 pub mod image;
 pub mod section;
 pub mod sections;
+pub mod variables;
 pub mod volume;
 
 pub use error::{Error, Fault, FaultKind};

@@ -94,6 +94,30 @@ macro_rules! kinds {
 }
 pub(crate) use kinds;
 
+/// Defines an enumeration over constants of `fv.h` that may get new members in 2.x.
+macro_rules! growing_kinds {
+    ($(#[$about:meta])* $name:ident: $($(#[$doc:meta])* $kind:ident = $constant:ident,)*) => {
+        $(#[$about])*
+        #[derive(Clone, Copy, Debug, PartialEq, Eq, Hash)]
+        #[non_exhaustive]
+        pub enum $name {
+            $($(#[$doc])* $kind,)*
+            /// A number for which this version of the crate has no variant.
+            Other(u32),
+        }
+
+        impl $name {
+            fn of(number: u32) -> $name {
+                match number {
+                    $(libfv_sys::$constant => $name::$kind,)*
+                    _ => $name::Other(number),
+                }
+            }
+        }
+    };
+}
+pub(crate) use growing_kinds;
+
 /// Reports a value that `fv.h` does not have. Its kinds get no new member in 2.x.
 pub(crate) fn unknown(what: &str, value: u32) -> ! {
     panic!("libfv returned an unknown {what}: {value}")

@@ -38,7 +38,7 @@ pub enum Way {
 
 impl Way {
     /// Returns the way with this number.
-    fn of(number: u32) -> Way {
+    pub(crate) fn of(number: u32) -> Way {
         match number {
             sys::FV_WAY_STORED => Way::Stored,
             sys::FV_WAY_STANDARD => Way::Standard,

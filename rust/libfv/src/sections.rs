@@ -3,6 +3,7 @@
 //! it is opened: sections one after another, each at a multiple of 4 from the first byte.
 
 use crate::call;
+use crate::image::SurveyRow;
 use crate::volume::{Node, NodeDigest};
 use crate::{Error, Reading};
 use libfv_sys as sys;
@@ -38,6 +39,23 @@ pub fn tree(sections: &[u8]) -> Result<Vec<Node>, Error> {
 /// The errors of [`tree`].
 pub fn tree_with(sections: &[u8], reading: Reading) -> Result<Vec<Node>, Error> {
     call::rows_with(sys::fv_sections_tree, sections, reading)
+}
+
+/// Surveys a stream of sections, such as the contents of a packed section, and returns rows that
+/// account for every byte, in preorder. Any bytes are accepted. The rows of depth 0 are sections, the
+/// filler between them, and lost bytes. All else is as for [`image::survey`](crate::image::survey).
+///
+/// ```
+/// let rows = fv::sections::survey(&[6, 0, 0, 0x19, 1, 2])?;
+/// assert_eq!(rows.iter().map(|it| it.range()).collect::<Vec<_>>(), [0..6, 0..4, 4..6]);
+/// # Ok::<(), fv::Error>(())
+/// ```
+///
+/// # Errors
+///
+/// [`Error::OutOfMemory`]
+pub fn survey(sections: &[u8]) -> Result<Vec<SurveyRow>, Error> {
+    call::rows(sys::fv_sections_survey, sections)
 }
 
 /// Returns the SHA-256 digest for each row of [`tree`], in the same order. The digest of a row

@@ -65,6 +65,9 @@ int LLVMFuzzerTestOneInput(const uint8_t *data, size_t size);
 void try_volume(const uint8_t *bytes, size_t len, const uint8_t *parameters);
 void try_image(const uint8_t *bytes, size_t len, const uint8_t *parameters);
 void try_survey(const uint8_t *bytes, size_t len, const uint8_t *parameters, const fv_header *headers, size_t volumes);
+void try_sections_survey(const uint8_t *bytes, size_t len, const uint8_t *parameters);
+void try_levels(const uint8_t *bytes, size_t len, const uint8_t *parameters);
+void try_variables(const uint8_t *bytes, size_t len, const uint8_t *parameters);
 void try_expression(const uint8_t *bytes, size_t len, const uint8_t *parameters);
 void try_hand_off_list(const uint8_t *bytes, size_t len, const uint8_t *parameters);
 void try_sections(const uint8_t *bytes, size_t len, const uint8_t *parameters);
@@ -78,6 +81,9 @@ struct input {
     size_t len;
 };
 bool try_comparison(struct input a, struct input b, const uint8_t *parameters);
+
+/* Tries whether two images mean the same at every level. They do if they are volumes of one meaning. */
+void try_sameness(struct input a, struct input b, bool is_one_meaning, const uint8_t *parameters);
 
 /* Counts these numbers, which a function has seen, as a further result that an input can reach (coverage.c). */
 void saw(const char *function, uint32_t a, uint32_t b, uint64_t c);

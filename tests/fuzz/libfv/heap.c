@@ -3,23 +3,19 @@
  * the end of a room, and the page after it cannot be touched. The bytes around the block are checked when it is
  * returned, and its room is used again as late as possible. */
 #define _GNU_SOURCE
+#include "../../../libfv/src/heap.h"
 #include "harness.h"
 #include <sys/mman.h>
 
 #define PAGE 4096u
 #define ROOMS 16384u
 #define RESTING 256u /* the number of rooms that are empty before a room is used again */
-#define ROOM ((size_t)8 << 20)
+#define ROOM ((size_t)16 << 20)
 #define STRIDE (ROOM + PAGE)
 #define FENCE 32u /* the number of checked bytes before and after a block */
 #define FENCED 0xFD
 #define NEW 0xA5
 #define RETURNED 0xDE
-
-struct tried {
-    bool ok;
-    uint8_t *p;
-};
 
 static uint8_t nothing;
 static uint8_t *rooms;

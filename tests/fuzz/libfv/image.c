@@ -110,4 +110,6 @@ void try_image(const uint8_t *bytes, size_t len, const uint8_t *parameters)
     try_image_normalise(bytes, len, count, parameters);
     try_image_check(bytes, len, count, parameters);
     try_survey(bytes, len, parameters, headers, count);
+    try_levels(bytes, len, parameters);
+    try_variables(bytes, len, parameters);
 }

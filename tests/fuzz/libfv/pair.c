@@ -114,5 +114,6 @@ void try_pair(const uint8_t *bytes, size_t len, const uint8_t *parameters)
     bool is_after_first = parameters[PAIR] & 1 && len > 64;
     if (is_after_first && fv_header_read(bytes, len, &header, NULL) == FV_OK && header.length < len)
         parted = header.length;
-    try_comparison((struct input){bytes, parted}, (struct input){bytes + parted, len - parted}, parameters);
+    struct input a = {bytes, parted}, b = {bytes + parted, len - parted};
+    try_sameness(a, b, try_comparison(a, b, parameters), parameters);
 }

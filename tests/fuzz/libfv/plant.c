@@ -36,10 +36,17 @@ enum {
     MARKED_DIGEST,   /* tree_digests_with ignores its flags */
     MARKED_PART,     /* extract_with ignores its flags for the first row */
     MARKED_STREAM,   /* sections_tree ignores its flags */
+    SHORT_ROW,       /* the third row of a variable store is one byte shorter */
+    ADDED_AGAIN,     /* a variable that was deleted is there */
+    NO_OWNER,        /* the second signature of a list has no owner */
     SHORT_LEAF,      /* the third row of a survey is one byte shorter */
     DEEP_ROW,        /* the last row of a survey with exactly five rows is one deeper */
     NO_FINDING,      /* the first row of a survey has no finding */
-    FULL_BUFFER      /* the last element of a buffer is left out if it is too small for a survey */
+    FULL_BUFFER,     /* the last element of a buffer is left out if it is too small for a survey */
+    LAST_LENT,       /* the last row of the survey of contents is left out, if an open image lends several */
+    CLOSED_SECTION,  /* the last of the packed sections of an open image is left out, if it is not opened */
+    SHORT_CONTENTS,  /* the contents of the second section that is opened are one byte shorter */
+    SHORT_SECTION    /* the second of several rows of the survey of a stream is one byte shorter */
 };
 
 #define WRAPS(call) __typeof__(call) __wrap_##call, __real_##call
@@ -49,6 +56,11 @@ WRAPS(fv_volume_compare);
 WRAPS(fv_image_scan);
 WRAPS(fv_image_check);
 WRAPS(fv_image_survey);
+WRAPS(fv_image_source_bytes);
+WRAPS(fv_image_source_rows);
+WRAPS(fv_image_packed);
+WRAPS(fv_variables_read);
+WRAPS(fv_signatures_read);
 WRAPS(fv_volume_tree);
 WRAPS(fv_volume_tree_digests);
 WRAPS(fv_volume_extract);
@@ -57,6 +69,7 @@ WRAPS(fv_volume_tree_digests_with);
 WRAPS(fv_volume_extract_with);
 WRAPS(fv_section_way);
 WRAPS(fv_section_open);
+WRAPS(fv_sections_survey);
 WRAPS(fv_sections_tree);
 WRAPS(fv_sections_tree_digests);
 WRAPS(fv_sections_extract);
@@ -155,6 +168,54 @@ fv_result __wrap_fv_image_survey(const void *image, size_t size, fv_survey_row *
     if (plant == SHORT_LEAF && *count > 2) rows[2].length--;
     if (plant == DEEP_ROW && *count == 5) rows[4].depth++;
     if (plant == NO_FINDING && *count) rows[0].findings = 0;
+    return result;
+}
+
+fv_result __wrap_fv_variables_read(const void *bytes, size_t size, fv_variable_row *rows, size_t room, size_t *count,
+                                   fv_fault *fault)
+{
+    fv_result result = __real_fv_variables_read(bytes, size, rows, room, count, fault);
+    if (planted() == SHORT_ROW && !result && *count > 2) rows[2].length--;
+    for (size_t i = 0; planted() == ADDED_AGAIN && !result && i < *count; i++)
+        if (rows[i].status == FV_VARIABLE_DELETED) rows[i].status = FV_VARIABLE_ADDED;
+    return result;
+}
+
+fv_result __wrap_fv_signatures_read(const void *bytes, size_t size, fv_variable_row *rows, size_t room, size_t *count,
+                                    fv_fault *fault)
+{
+    fv_result result = __real_fv_signatures_read(bytes, size, rows, room, count, fault);
+    static const fv_guid no_owner;
+    if (planted() == NO_OWNER && !result && *count > 2 && rows[2].part == FV_PART_SIGNATURE) rows[2].guid = no_owner;
+    return result;
+}
+
+const void *__wrap_fv_image_source_bytes(const fv_image *image, size_t source, size_t *size)
+{
+    const void *bytes = __real_fv_image_source_bytes(image, source, size);
+    if (planted() == SHORT_CONTENTS && source == 2 && *size) --*size;
+    return bytes;
+}
+
+const fv_survey_row *__wrap_fv_image_source_rows(const fv_image *image, size_t source, size_t *count)
+{
+    const fv_survey_row *rows = __real_fv_image_source_rows(image, source, count);
+    if (planted() == LAST_LENT && source && *count > 2) --*count;
+    return rows;
+}
+
+const fv_packed *__wrap_fv_image_packed(const fv_image *image, size_t *count)
+{
+    const fv_packed *rows = __real_fv_image_packed(image, count);
+    if (planted() == CLOSED_SECTION && *count && rows[*count - 1].reason) --*count;
+    return rows;
+}
+
+fv_result __wrap_fv_sections_survey(const void *sections, size_t size, fv_survey_row *rows, size_t room, size_t *count,
+                                    fv_fault *fault)
+{
+    fv_result result = __real_fv_sections_survey(sections, size, rows, room, count, fault);
+    if (planted() == SHORT_SECTION && !result && *count > 2) rows[1].length--;
     return result;
 }
 

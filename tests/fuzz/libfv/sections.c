@@ -140,6 +140,7 @@ void try_sections(const uint8_t *bytes, size_t len, const uint8_t *parameters)
     fv_result result = try_rows(&rows, nodes, &count, &fault);
     check_result("sections_tree", result, &fault, FV_FAULT_DEPTH, len);
     saw(__func__, result, fault.depth, 0);
+    try_sections_survey(bytes, len, parameters);
     const struct rows sums = rows_of("sections_tree_digests", tree_digests, sizeof *digests, 1, MOST_STREAM_ROWS, bytes,
                                      len, parameters, 1);
     fv_result of_digests = try_rows(&sums, digests, &length, &same);

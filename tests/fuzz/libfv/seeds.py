@@ -10,12 +10,14 @@ import random
 from collections.abc import Iterator
 from pathlib import Path
 
+from tests import stores
 from tests.fuzz.cases import make_case
 from tests.fuzz.maker import Maker
 from tests.making import FFS3, RAW, VOLUME, compressed, compression, section, stream, volume
 
 # as in harness.h
-AS_VOLUME, AS_EXPRESSION, AS_HAND_OFF_LIST, AS_PAIR, AS_IMAGE_AND_VOLUME, AS_SECTIONS, AS_PACKED = 0, 4, 5, 6, 7, 8, 9
+AS_VOLUME, AS_IMAGE, AS_EXPRESSION, AS_HAND_OFF_LIST, AS_PAIR = 0, 3, 4, 5, 6
+AS_IMAGE_AND_VOLUME, AS_SECTIONS, AS_PACKED = 7, 8, 9
 MODES = {"volume": AS_VOLUME, "image": AS_IMAGE_AND_VOLUME, "list": AS_HAND_OFF_LIST}
 SEED, CASES, EXPRESSIONS = 7, 300, 20
 MOST = 4000  # bytes; a small input is tried more often
@@ -53,6 +55,9 @@ def few() -> Iterator[tuple[str, bytes]]:
     yield "packed", bytes([AS_PACKED]) + none_refused + compression(section(RAW, b"raw"))
     yield "lzma", bytes([AS_PACKED]) + none_refused + compressed(section(RAW, b"raw"))
     yield "expression", bytes([AS_EXPRESSION]) + none_refused + b"\x06\x08"
+    store = stores.store(stores.variable("A", b"x"), length=96)
+    lists = stores.signature_list(stores.X509, stores.GLOBAL, b"x", b"y")
+    yield from ((it, bytes([AS_IMAGE]) + none_refused + data) for it, data in (("store", store), ("lists", lists)))
 
 
 def main() -> None:

@@ -1,5 +1,5 @@
 /* SPDX-License-Identifier: BSD-2-Clause-Patent */
-/* Checks fv_image_survey (README.md says how). */
+/* Checks fv_image_survey and fv_sections_survey (README.md says how). */
 #include "format.h"
 #include "harness.h"
 #include "rows.h"
@@ -14,11 +14,14 @@ enum { MOST_DEPTH = 300 };
 static fv_survey_row all[MOST_SURVEY];
 static size_t all_count;
 
+/* The call that is tried. */
+static __typeof__(fv_image_survey) *call;
+
 /* Makes the call. If it fails, checks that the buffer begins with the first rows, all of them if it is full, and takes
  * these rows away, so that try_rows finds the buffer untouched. */
 static fv_result survey(const uint8_t *bytes, size_t len, void *rows, size_t room, size_t *count, fv_fault *fault)
 {
-    fv_result result = fv_image_survey(bytes, len, rows, room, count, fault);
+    fv_result result = call(bytes, len, rows, room, count, fault);
     const fv_survey_row *found = rows;
     size_t written = 0;
     if (result == FV_OK) return result;
@@ -111,22 +114,51 @@ static void check_verdict(const uint8_t *bytes, size_t len)
     saw(__func__, findings, stores > 1, is_one + 2u * is_accepted);
 }
 
-void try_survey(const uint8_t *bytes, size_t len, const uint8_t *parameters, const fv_header *headers, size_t volumes)
+/* Tries a call of this name. Returns whether all rows were read. */
+static bool try_call(const char *name, const uint8_t *bytes, size_t len, const uint8_t *parameters)
 {
     static fv_survey_row again[MOST_SURVEY];
-    const struct rows rows = {"image_survey", survey, sizeof *all, 8, MOST_SURVEY, bytes, len, parameters, 0};
+    const struct rows rows = {name, survey, sizeof *all, 8, MOST_SURVEY, bytes, len, parameters, 0};
     size_t count;
     fv_fault fault = unset_fault;
-    fv_result result = fv_image_survey(bytes, len, all, MOST_SURVEY, &all_count, &fault);
-    check_plain("image_survey", result, all_count > MOST_SURVEY ? FV_BUFFER_TOO_SMALL : FV_OK, &fault);
-    CHECK(all_count <= 2 * len, "survey: %lu rows", all_count);
-    if (result) return;
+    fv_result result = call(bytes, len, all, MOST_SURVEY, &all_count, &fault);
+    check_plain(name, result, all_count > MOST_SURVEY ? FV_BUFFER_TOO_SMALL : FV_OK, &fault);
+    CHECK(all_count <= 2 * len, "%s: %lu rows", name, all_count);
+    if (result) return false;
     for (size_t i = 0; i < all_count; i++) saw(__func__, all[i].kind, all[i].findings, all[i].depth);
     check_nesting(len);
     for (size_t i = 0; i < all_count; i++) check_fields(bytes, all + i, i);
+    result = try_rows(&rows, again, &count, &fault);
+    CHECK(result == FV_OK && count == all_count, "%s: %u, %lu rows, then %lu", name, result, all_count, count);
+    CHECK(!memcmp(again, all, count * sizeof *all), "%s: other rows for the same bytes", name);
+    return true;
+}
+
+void try_survey(const uint8_t *bytes, size_t len, const uint8_t *parameters, const fv_header *headers, size_t volumes)
+{
+    call = fv_image_survey;
+    if (!try_call("image_survey", bytes, len, parameters)) return;
     check_volumes(headers, volumes);
     check_verdict(bytes, len);
-    result = try_rows(&rows, again, &count, &fault);
-    CHECK(result == FV_OK && count == all_count, "image_survey: %u, %lu rows, then %lu", result, all_count, count);
-    CHECK(!memcmp(again, all, count * sizeof *all), "image_survey: other rows for the same image");
+}
+
+/* Checks that the rows of depth 0 are sections, bytes between them, or lost bytes; and that none of them is lost or has a
+ * finding if sections_tree accepts the bytes. */
+void try_sections_survey(const uint8_t *bytes, size_t len, const uint8_t *parameters)
+{
+    size_t count;
+    uint32_t findings = 0;
+    call = fv_sections_survey;
+    if (!try_call("sections_survey", bytes, len, parameters)) return;
+    bool is_accepted = is_counted(fv_sections_tree(bytes, len, 0, NULL, 0, &count, NULL));
+    for (size_t i = 0; i < all_count; i++) {
+        uint32_t kind = all[i].kind;
+        if (all[i].depth) continue;
+        findings |= all[i].findings;
+        CHECK(kind == FV_ROW_SECTION || kind == FV_ROW_LOST || is_leaf(all + i), "sections_survey: row %lu has kind %u", i,
+              kind);
+        CHECK(!is_accepted || (kind != FV_ROW_LOST && !all[i].findings), "sections_survey: row %lu of a stream: %x", i,
+              all[i].findings);
+    }
+    saw(__func__, findings, is_accepted, 0);
 }

@@ -113,6 +113,7 @@ static void try_compare(const struct volume *v)
     bool is_other = v->image && v->parameters[PAIR] & 1;
     bool is_same = try_comparison(volume, is_other ? its_image : volume, v->parameters);
     CHECK(is_same == !v->unread, "compare: a volume with %s", is_other ? "its image" : "itself");
+    if (is_other) try_sameness(volume, its_image, is_same, v->parameters);
 }
 
 /* Checks that the image is a volume of the same meaning, and its own image. */

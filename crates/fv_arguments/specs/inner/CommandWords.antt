@@ -4,7 +4,7 @@ use Rattle.std.specs.Str.{bytes_eq}
 use Rattle.clap.specs.Words.{App, found_of, rows_of}
 use Rattle.clap.specs.declared.parser.matches.ArgMatches.{ArgMatches}
 use Rattle.fv_arguments.specs.Options.{compare_app, extract_app, faults_in, hobs_app, list_app, image_app, one_input_app, rows_in}
-use Rattle.fv_arguments.specs.Options.{open_app, volume_app}
+use Rattle.fv_arguments.specs.Options.{open_app, same_app, survey_app, volume_app}
 use Rattle.fv_arguments.specs.CommandLines.{AsksBy, HasTexts, command_name}
 use Rattle.fv_plan.specs.declared.plan.Command.{Command}
 use Rattle.fv_plan.specs.declared.plan.Plan.{Plan}
@@ -28,7 +28,8 @@ app_named name =
     else (if bytes_eq name (codes "list") then list_app
     else (if bytes_eq name (codes "open") then open_app
     else (if bytes_eq name (codes "scan") then one_input_app
-    else (if bytes_eq name (codes "survey") then one_input_app else volume_app))))))))
+    else (if bytes_eq name (codes "survey") then survey_app
+    else (if bytes_eq name (codes "same") then same_app else volume_app)))))))))
 
 -- the task of `list`, by whether `--sums` and `--open` are given: there is none if both are given
 abbrev pub list_task : (sums opened : Bool) → Option Task

@@ -22,7 +22,7 @@ Puts takes says stops s t (Err e) = stops e × (t ≡ s)
 abbrev pub Performs : {S : Type 0} → (S → List ℕ → S → Type 0) → Task → Bool → List ℕ → S → S → Result Status Fault → Type 0
 Performs takes task hex input s t result = Puts takes (TaskText task hex input) (TaskRefusal task input) s t result
 
--- the status of a comparison, by whether the two volumes have the same meaning
+-- the status of a comparison, by whether the two inputs have the same meaning
 abbrev pub verdict_of : Bool → Status
 verdict_of true = Done
 verdict_of false = Different

@@ -36,6 +36,14 @@ pub(crate) fn small_runs() -> &'static str {
     survey: H128 ff*55 00 -> 1 volume at 0 length 128 system 8c8ce578-8a3d-4f1c-9935-896185c32dd3 found|  \
         volume-header at 0 length 72|  free at 72 length 48 finding 16|  lost at 120 length 8 finding 16|    unread at 120 \
         length 8|sums volume-header 72 free 48 unread 8 all 128 findings 2 fixed 0|\n\
+    survey-open: H128 0a*16 2eaa0200300000f8 0c0000010300000000 010203 0c0000010300000003 616263 ff*8 -> 1 volume at 0 \
+        length 128 system 8c8ce578-8a3d-4f1c-9935-896185c32dd3 found|  volume-header at 0 length 72|  file at 72 length 48 \
+        0a0a0a0a-0a0a-0a0a-0a0a-0a0a0a0a0a0a type 02|    file-header at 72 length 24|    section at 96 length 12 type 01|      \
+        section-header at 96 length 4|      packed at 100 length 8|    section at 108 length 12 type 01|      section-header \
+        at 108 length 4|      packed at 112 length 8|  free at 120 length 8|sums volume-header 72 file-header 24 \
+        section-header 8 packed 16 free 8 all 128 findings 0 fixed 0|source 1 in 0 at 96 length 12 stored 3|lost at 0 length \
+        3 finding 20|  unread at 0 length 3|sums unread 3 all 3 findings 1 fixed 0|closed in 0 at 108 length 12 not opened: \
+        section fault 2 at +8|opened 1 closed 1|\n\
     cells: deleted-file -> 0 header at 0 length 72|deleted at 72 length 32|free at 104 length 24|sums files 0 pads 0 \
         deleted 32 filler 0 free 24|\n\
     unfix: H128 0a*16 43aa0104180000f8 ff*32 -> 0 =H128 0a*16 47aa0100180000f8 ff*32\n\
@@ -66,6 +74,10 @@ pub(crate) fn small_runs() -> &'static str {
     compare: file-sum-zero-data & file-without-data -> 1 different at file 0 attributes|\n\
     compare: '0 & 00*0 -> 2 first fault 25 at 0|\n\
     compare: empty & head-sum-off-by-one -> 2 second fault 6 at 0|\n\
+    same: 010203 & 010204 -> 1 different: first 0 at 0 length 3, second 0 at 0 length 3|\n\
+    same: H128 0a*16 2faa02002f0000f8 170000010e00000000 0e0000010500000000 050000195a ff*9 & H128 0a*16 \
+        2faa02002f0000f8 170000010e00000000 0e0000010500000000 050000195b ff*9 -> 1 different: first 2 at 4 length 1, second 2 \
+        at 4 length 1|\n\
     hobs: hand-off-list & 00*0 -> 0 hob 0001 length 56|hob 0009 length 56|hob fffe length 8|hob 0004 length 32|hob \
         ffff length 8|consumed 160|\n\
     hobs 16711680: hand-off-list & empty -> 0 hob 0001 length 56|hob 0009 length 56 volume|hob fffe length 8|hob \

@@ -42,6 +42,7 @@ fn commands() -> &'static str {
     extract 0b - 1: fv extract --name 0b0b0b0b-0b0b-0b0b-0b0b-0b0b0b0b0b0b\n\
     scan: fv scan\n\
     survey: fv survey\n\
+    survey-open: fv survey --open\n\
     cells: fv cells\n\
     unfix: fv unfix\n\
     open: fv open\n\
@@ -54,6 +55,7 @@ fn commands() -> &'static str {
     check-all: fv check --all\n\
     compare: fv compare first second\n\
     compare at 8 at 16: fv compare --at 8 --other-at 16 first second\n\
+    same: fv same first second\n\
     hobs: fv hobs\n\
     hobs 16711680: fv hobs --image second --base 16711680\n\
     "

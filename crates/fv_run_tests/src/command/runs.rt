@@ -82,7 +82,7 @@ fn run_ends_without_room(
 // Returns the line for a reader that fails after `count` bytes.
 fn line_at(alloc: Global, run: &Run, side: &str, count: usize) -> Option<String> {
     let side = match run.plan.command {
-        Command::Compare { .. } => side,
+        Command::Compare { .. } | Command::Same { .. } => side,
         _ => "",
     };
     format!(in alloc; "{side}fault 25 at {count}\n").ok()

@@ -2,7 +2,6 @@
 use Rattle.std.specs.Prelude.{◌≡◌, ℕ, ◌+◌, ◌<◌, ◌^◌, ◌&&◌, nat_lt, if◌then◌else◌, List, ◌++◌, map, get_or, slice_set, codes, decimal}
 use Rattle.std.specs.List.{count_by, flat_map}
 use Rattle.fv_text.specs.Words.{line_feed}
-use Rattle.fv_survey.specs.Words.{survey_of}
 use Rattle.fv_survey.specs.declared.row.Row.{Row}
 use Rattle.fv_survey.specs.declared.row.RowKind.{RowKind}
 use Rattle.fv_survey_lines.specs.SurveyTexts.{bytes_of_kind, has_other_findings, is_clean, is_marked_only, is_sound}
@@ -49,16 +48,16 @@ pub record HasRoom (t : Totals) (row : Row) : Type 0 where
 abbrev pub put_sums_text : List ℕ → List ℕ
 put_sums_text sums = flat_map (λ kind. sum_text kind (sum_in sums kind)) leaf_kinds
 
--- the last line of an image of n bytes
+-- the last line for n bytes
 abbrev pub totals_text : ℕ → Totals → List ℕ
 totals_text n t =
     codes "sums" ++ (put_sums_text t.sums ++ (codes " all " ++ (decimal n
     ++ (codes " findings " ++ (decimal t.findings ++ (codes " fixed " ++ (decimal t.fixed ++ line_feed)))))))
 
--- the first rows of the survey of an image have been put and added up, and these rows are left
-pub record Surveyed {S : Type 0} (takes : S → List ℕ → S → Type 0) (image : List ℕ) (from to : S) (left : List Row)
+-- the first of some rows have been put and added up, and these rows are left
+pub record ArePut {S : Type 0} (takes : S → List ℕ → S → Type 0) (whole : List Row) (from to : S) (left : List Row)
     (t : Totals) : Type 0 where
   pub rows : List Row
-  pub all : rows ++ left ≡ survey_of image
+  pub all : rows ++ left ≡ whole
   pub put : takes from (rows_text rows) to
   pub totals : t ≡ totals_of rows

@@ -1,4 +1,4 @@
-use Rattle.std.proofs.Common.{inl, inr, refl}
+use Rattle.std.proofs.Common.{inr, refl}
 use Rattle.fv_base.proofs.Laws.{err_is, or_more, want_known}
 use Rattle.fv_c.specs.ReadInputs.{IsRead}
 use Rattle.fv_c.specs.declared.input.Form.TheVariants.{Stream}

@@ -55,3 +55,7 @@ returns-in-Scan g c = rw c.in-Scan.is (c.scan.ensures c.args.hex)
 pub returns-in-Survey : goal.returns-in-Survey
 returns-in-Survey g c =
     let put = c.put_surveyed.ensures in rw c.in-Survey.is (put.0, put.1, put.2)
+
+pub returns-in-SurveyOpened : goal.returns-in-SurveyOpened
+returns-in-SurveyOpened g c =
+    let put = c.put_surveyed_opened.ensures in rw c.in-SurveyOpened.is (put.0, put.1, put.2)

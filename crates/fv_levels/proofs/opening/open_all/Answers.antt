@@ -5,12 +5,12 @@ use Rattle.fv_levels.proofs.RunLemmas.{level_end, level_step, start_of}
 use Rattle.fv_levels.proofs.opening.open_all.Goals as goal
 
 pub loop-level-init : goal.loop-level-init
-loop-level-init c = (omega arith, start_of _ _ _ c.of-levels.ensures.sources c.of-levels.ensures.closed)
+loop-level-init c = (omega arith, rw c.first-progress.ensures (start_of _ _ _ c.of-levels.ensures.sources c.of-levels.ensures.closed))
 
 pub loop-level-preserved : goal.loop-level-preserved
 loop-level-preserved c =
     let is : 9 - c.loop-level.level ≡ suc (9 - (c.loop-level.level + 1)) = omega (arith, c.loop-level-test.true) in
-    level_step _ _ _ _ _ _ _ _ c.loop-level.invariant.0 c.count-next.ensures c.in_ok-left.ensures.over (rw is at c.loop-level.invariant.1)
+    level_step _ _ _ _ _ _ _ _ c.loop-level.invariant.0 c.count-next.ensures c.in_ok-progress.ensures.over (rw is at c.loop-level.invariant.1)
 
 pub returns-clause-levels : goal.returns-clause-levels
 returns-clause-levels c =

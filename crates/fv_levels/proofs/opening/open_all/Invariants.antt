@@ -6,4 +6,4 @@ use Rattle.fv_levels.proofs.opening.open_all.Given as goal
 abbrev pub invariant-loop-level : goal.invariant-loop-level
 invariant-loop-level l =
     (l.from ≤ length l.levels.sources)
-    × (levels_with l.levels (levels_from (9 - l.level) l.from l.left (drop l.from l.levels.sources)) ≡ levels_of l.fn.image l.fn.budget)
+    × (levels_with l.levels (levels_from (9 - l.level) l.from l.progress (drop l.from l.levels.sources)) ≡ levels_of l.fn.image l.fn.budget)

@@ -1,5 +1,5 @@
 use Rattle.std.proofs.Common.{drop}
-use Rattle.fv_budget.specs.declared.budget.Budget.{Budget}
+use Rattle.fv_levels.specs.declared.attempt.Progress.{Progress}
 use Rattle.fv_levels.specs.Words.{LevelsForm, packed_of}
 use Rattle.fv_levels.specs.inner.Opening.{Continues, GoesOver}
 use Rattle.fv_levels.proofs.opening.open_level.Given as goal
@@ -8,5 +8,5 @@ use Rattle.fv_levels.proofs.opening.open_level.Given as goal
 abbrev pub invariant-loop-number : goal.invariant-loop-number
 invariant-loop-number l =
     Continues l.fn.levels l.levels
-    × ((end : LevelsForm) (t : Budget) → GoesOver l.levels l.left (packed_of l.number (drop l.number l.fn.levels.sources)) end t
-    → GoesOver l.fn.levels l.fn.budget (packed_of l.fn.from (drop l.fn.from l.fn.levels.sources)) end t)
+    × ((end : LevelsForm) (t : Progress) → GoesOver l.levels l.next (packed_of l.number (drop l.number l.fn.levels.sources)) end t
+    → GoesOver l.fn.levels l.fn.progress (packed_of l.fn.from (drop l.fn.from l.fn.levels.sources)) end t)

@@ -7,4 +7,4 @@ use Rattle.fv_levels.proofs.opening.open_source.Given as goal
 abbrev pub invariant-loop-row : goal.invariant-loop-row
 invariant-loop-row l =
     (s : SourceForm) → slice_get l.fn.levels.sources l.fn.number ≡ Some s
-    → GoesOver l.fn.levels l.fn.budget (map (section_in l.fn.number s) (take l.row-index l.row-items)) l.levels l.left
+    → GoesOver l.fn.levels l.fn.progress (map (section_in l.fn.number s) (take l.row-index l.row-items)) l.levels l.next

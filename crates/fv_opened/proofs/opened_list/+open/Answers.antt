@@ -39,7 +39,7 @@ put_rows-returns g t c =
 pub put_packed-returns-in_default : goal.put_packed-returns-in_default
 put_packed-returns-in_default g t c =
     let is = sym c.in_default.is ∙ c.limit.ensures in
-    (spent_text, packed_is _ _ _ None _ spent_text _ c.if-level-eq0.false is (refl, refl), c.put-in_default.ensures)
+    (spent_text, packed_is _ _ _ None _ spent_text _ c.if-level-eq0.false is (refl, refl), c.put_spent.ensures)
 
 pub put_packed-returns-in-Ok : goal.put_packed-returns-in-Ok
 put_packed-returns-in-Ok g t c =

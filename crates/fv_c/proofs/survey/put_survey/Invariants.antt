@@ -1,9 +1,0 @@
-use Rattle.std.proofs.Common.{length}
-use Rattle.fv_c.specs.inner.SurveyRows.{IsListed}
-use Rattle.fv_c.proofs.survey.put_survey.Given as goal
-
-abbrev pub invariant-loop-walk : goal.invariant-loop-walk
-invariant-loop-walk l = IsListed l.fn.image l.count l.walk l.initial.rows l.rows
-
-abbrev pub decreases-loop-walk : goal.decreases-loop-walk
-decreases-loop-walk l = length l.walk

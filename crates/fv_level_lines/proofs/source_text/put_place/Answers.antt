@@ -1,0 +1,4 @@
+use Rattle.fv_level_lines.proofs.source_text.put_place.Goals as goal
+
+pub returns : goal.returns
+returns g c = search g.S.Sink.laws.joined depth 8
