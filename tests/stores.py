@@ -28,7 +28,7 @@ FIELDS = struct.pack("<QHBBBBB9xI", 7, 2024, 5, 6, 7, 8, 9, 3)
 def variable(
     name: str | bytes, data: bytes, vendor: uuid.UUID = GLOBAL, state: int = ADDED, attributes: int = 7, fields: bytes = b""
 ) -> bytes:
-    """Returns a variable, and the filler after it. `fields` are those of an authenticated variable."""
+    """Returns a variable, and the filler after it. `fields` has what only an authenticated variable has."""
     name = f"{name}\0".encode("utf-16-le", "surrogatepass") if isinstance(name, str) else name
     head = struct.pack("<HBxI", 0x55AA, state, attributes) + fields + struct.pack("<II", len(name), len(data))
     whole = head + vendor.bytes_le + name + data

@@ -703,8 +703,8 @@ FV_CHECKED_ fv_result fv_image_survey(const void *image, size_t size, fv_survey_
  * first come the contents of the sections of source 0, in the order of the rows of its survey, then the contents of the
  * sections of source 1, and so on. A packed section is a compression section or a GUID-defined section with a row in the
  * survey of its source. It is not opened if 8 opened sections are around it, if nothing is left of the limit, or if
- * fv_section_open finds a fault in it. A packed section that lies in an opened section of the same source is part of the
- * contents of that section, so it is opened there, and is not listed.
+ * fv_section_open finds a fault in it. If the contents of a section are stored as they are, a packed section that lies
+ * in them is opened in the contents, and is not listed for the source around them.
  * `limit` is the most bytes of the contents of all sections together. FV_CONTENTS_MAX is used in place of a larger one,
  * as UINT64_MAX. An opened section counts for at least 65,536 bytes, and a section on which a decoder fails for
  * 16,777,216. The contents of one section have at most FV_LENGTH_MAX bytes.
@@ -731,7 +731,7 @@ FV_API_ const void *fv_image_source_bytes(const fv_image *image, size_t source, 
 FV_API_ const fv_survey_row *fv_image_source_rows(const fv_image *image, size_t source, size_t *count);
 
 /* Lends the rows of all packed sections of an image, and sets *count to their number. First come the sections that are
- * opened: row 0 is the section whose contents are source 1, row 1 the section whose contents are source 2, and so on.
+ * opened: the contents of the section of the first row are source 1, the contents of the next are source 2, and so on.
  * Then come the sections that are not opened, in the order of their sources and, in each source, of the rows of its
  * survey. The rows are there until the image is closed. */
 FV_API_ const fv_packed *fv_image_packed(const fv_image *image, size_t *count);
@@ -741,7 +741,7 @@ FV_API_ const fv_packed *fv_image_packed(const fv_image *image, size_t *count);
  * Places, pads, checksums and states do not count, nor do deleted files, superseded files and free bytes, nor how a
  * section is packed that is opened. A packed section that is not opened counts with all its bytes. Any bytes are accepted.
  * Returns FV_OK, and sets *found. If the images mean the same, is_same is 1, and neither place is there. If not, the
- * places are those of the first parts that differ; if only one image has a part there, the other has no place. The source
+ * places say where the first parts lie that differ; if only one image has a part there, the other has no place. The source
  * of a place is the source with this number of fv_image_open of the same image with the same limit. Returns
  * FV_OUT_OF_MEMORY if memory runs out, and leaves *found unchanged. */
 FV_CHECKED_ fv_result fv_image_same(const void *first, size_t first_size, const void *second, size_t second_size,

@@ -200,7 +200,7 @@ class Source:
     `number` is its number, and `depth` the number of opened sections around its bytes: 0 for the image, otherwise 1 to
     8. `packed` is the section whose contents it is, which is in an earlier source; it is None for the image. `rows` are
     the rows of its survey, in preorder, with offsets in its bytes: they account for every byte. The rows of depth 0 of
-    the image are volumes, and those of contents are sections. `bytes` are its bytes, which nothing can write to over
+    the image are volumes, and in contents they are sections. `bytes` are its bytes, which nothing can write to over
     this view. The view and the rows are memory of the library, which stays as long as anything refers to it."""
 
     number: int

@@ -35,7 +35,7 @@ OPS_WITH_GUID = OPS[:3]
 MOST_OPS = 50  # of an expression that are shown
 LONGEST_OP = 17  # bytes: an op and its GUID
 
-# The file systems of volumes, by their GUIDs: those of the specification, older ones, and those of other firmware.
+# The file systems of volumes, by their GUIDs: of the specification, older ones, and of other firmware.
 FILE_SYSTEMS = {
     uuid.UUID("8c8ce578-8a3d-4f1c-9935-896185c32dd3"): "FFS2",
     uuid.UUID("5473c07a-3dcb-4dca-bd6f-1e9689e7349a"): "FFS3",
